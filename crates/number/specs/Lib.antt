@@ -1,0 +1,10 @@
+pub mod Be
+pub mod BeLaws
+pub mod Between
+pub mod Cases
+pub mod Read
+pub mod Signed
+pub mod SignedLaws
+pub mod Size
+pub mod SizeLaws
+pub mod Tests

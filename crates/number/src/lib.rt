@@ -1,0 +1,4 @@
+// Big-endian numbers, read from a part of a slice and written into one; the size of a maximum; signed numbers.
+pub mod be;
+pub mod signed;
+pub mod size;
