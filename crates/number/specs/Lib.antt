@@ -8,3 +8,5 @@ pub mod SignedLaws
 pub mod Size
 pub mod SizeLaws
 pub mod Tests
+pub mod Width
+pub mod WidthLaws

@@ -2,3 +2,4 @@
 pub mod be;
 pub mod signed;
 pub mod size;
+pub mod width;

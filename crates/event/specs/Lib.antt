@@ -1,0 +1,4 @@
+pub mod Meaning
+pub mod Real
+pub mod RealCases
+pub mod RealLaws

@@ -1,0 +1,26 @@
+-- Laws of widths.
+use mathlib.Core.Bool.{Bool, true, false}
+use mathlib.Core.Path.{_≡_, refl}
+use Prim.Native.Nat.{ℕ, _≤_, _<_}
+use native.Mathlib.Omega.{arith}
+use lib.Dec.{lit<, lit≤}
+use Rattle.number.specs.Width.{bytesIn}
+use Rattle.number.specs.declared.width.Width.{Width}
+use Rattle.number.specs.declared.width.Width.the-variants.{One, Two, Three, Four, Eight}
+
+-- a width has at least one byte and at most eight
+pub bytesIn-pos : (w : Width) → 0 < bytesIn w
+unfolding bytesIn
+bytesIn-pos One = lit< tt
+bytesIn-pos Two = lit< tt
+bytesIn-pos Three = lit< tt
+bytesIn-pos Four = lit< tt
+bytesIn-pos Eight = lit< tt
+
+pub bytesIn-le : (w : Width) → bytesIn w ≤ 8
+unfolding bytesIn
+bytesIn-le One = lit≤ tt
+bytesIn-le Two = lit≤ tt
+bytesIn-le Three = lit≤ tt
+bytesIn-le Four = lit≤ tt
+bytesIn-le Eight = lit≤ tt
