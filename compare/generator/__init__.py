@@ -1,0 +1,1 @@
+"""Inputs for the comparison, made from a seed."""

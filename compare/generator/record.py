@@ -1,0 +1,160 @@
+"""Chooses the recorded inputs and writes them with the oracle's answers.
+
+    python3 -m generator.record ORACLE FOLDER
+
+Document 01's cases come first, with every kind at its limits. Then each drawn input that shows something new is taken: a number at
+a new place, a new kind of event, a new end for its family. The rest is filled up evenly.
+"""
+
+import collections
+import itertools
+import pathlib
+import random
+import re
+import subprocess
+import sys
+
+from . import read_families, worked, write_families
+
+SEED = "recorded"
+DRAWN = 600  # of each family
+READER_INPUTS = 560
+TAPES = 304
+LONGEST = 300  # bytes of an input that is drawn
+MOST_PLACES = 12  # of one refusal number, in the first choice
+
+
+def pool(first, families):
+    """Pairs of a family and an input, document 01's own before the drawn ones, none twice."""
+    seen = set()
+    drawn = (
+        (name, family(generator))
+        for name, family in families.items()
+        for generator in [random.Random(f"{SEED} {name}")]
+        for _ in range(DRAWN)
+    )
+    for name, each in itertools.chain((("worked", each) for each in first), drawn):
+        if each not in seen and (name == "worked" or len(each) <= LONGEST):
+            seen.add(each)
+            yield name, each
+
+
+def ask(oracle, command, inputs):
+    lines = "".join(each.hex() + "\n" for each in inputs)
+    return subprocess.run([oracle, command], input=lines, capture_output=True, text=True, check=True).stdout
+
+
+def blocks(answers):
+    """The reader's answers, cut before each line `events`."""
+    return re.split(r"(?m)(?<=\n)(?=events$)", answers)
+
+
+# --- what an answer shows -------------------------------------------------------------------------
+
+def reader_shows(name, block):
+    lines = block.splitlines()
+    end = next(i for i, line in enumerate(lines) if line.startswith(("end", "refused")))
+    words = lines[end].split()
+    yield (name, *words[:2])
+    yield ("then", *words[:2], lines[end + 1].split()[1])
+    yield from (("event", line.split()[0]) for line in lines[1:end])
+    if words[0] == "refused":
+        yield ("place", words[1], words[3])
+
+
+def tape_shows(name, line):
+    words = line.split()
+    yield (name, words[0], *words[4:6])
+    if words[0] == "outside":
+        yield (name, *words[:2])
+    if words[0] != "file":
+        yield ("place", words[1], words[3])
+
+
+# --- choosing -------------------------------------------------------------------------------------
+
+def choose(candidates, shows, wanted):
+    """Indices of the chosen candidates, in their order. A candidate is (family, input, answer)."""
+    chosen = []
+    covered = set()
+    places = collections.Counter()
+    for index, (name, _, answer) in enumerate(candidates):
+        new = {
+            feature
+            for feature in shows(name, answer)
+            if feature not in covered and (feature[0] != "place" or places[feature[1]] < MOST_PLACES)
+        }
+        covered |= new
+        places.update(feature[1] for feature in new if feature[0] == "place")
+        if new or name == "worked":
+            chosen.append(index)
+    return sorted(chosen + fill(candidates, set(chosen), wanted - len(chosen)))
+
+
+def fill(candidates, chosen, count):
+    """Further indices, one of each family in turn."""
+    rest = {}
+    for index, (name, _, _) in enumerate(candidates):
+        if index not in chosen:
+            rest.setdefault(name, []).append(index)
+    turns = itertools.chain.from_iterable(itertools.zip_longest(*rest.values()))
+    return list(itertools.islice((index for index in turns if index is not None), max(0, count)))
+
+
+# --- the two lists --------------------------------------------------------------------------------
+
+def compares_whole(block):
+    """Whether document 01 compares every line of a block."""
+    return not re.search(r"(?m)^(then )?(outside|stopped|panic)| at -$", block)
+
+
+def reader_list(oracle):
+    named = list(pool(worked.files() + worked.kinds(), read_families.FAMILIES))
+    answers = blocks(ask(oracle, "read", [each for _, each in named]))
+    candidates = [
+        (name, each, block) for (name, each), block in zip(named, answers, strict=True) if compares_whole(block)
+    ]
+    return [candidates[i] for i in choose(candidates, reader_shows, READER_INPUTS)]
+
+
+def tape_list(oracle):
+    named = list(pool(worked.tapes(), write_families.FAMILIES))
+    answers = ask(oracle, "write", [each for _, each in named]).splitlines(keepends=True)
+    candidates = [
+        (name, each, line)
+        for (name, each), line in zip(named, answers, strict=True)
+        if not line.startswith(("outside date", "panic"))
+    ]
+    return [candidates[i] for i in choose(candidates, tape_shows, TAPES)]
+
+
+def check_reader(chosen):
+    """Every refusal that the crate's reader can give must stand at several places; 3 has but one."""
+    found = {}
+    for _, _, block in chosen:
+        match = re.search(r"(?m)^refused (\d+) at (\d+)$", block)
+        if match:
+            found.setdefault(int(match[1]), set()).add(match[2])
+    for number in range(2, 15):
+        least = 1 if number == 3 else 4
+        if len(found.get(number, ())) < least:
+            sys.exit(f"record: refusal {number} stands at too few places")
+
+
+def save(folder, inputs_name, answers_name, chosen):
+    (folder / inputs_name).write_text("".join(each.hex() + "\n" for _, each, _ in chosen))
+    (folder / answers_name).write_text("".join(answer for _, _, answer in chosen))
+
+
+def main():
+    oracle, folder = sys.argv[1], pathlib.Path(sys.argv[2])
+    files = reader_list(oracle)
+    check_reader(files)
+    tapes = tape_list(oracle)
+    save(folder, "reader-inputs.txt", "reader-answers.txt", files)
+    save(folder, "writer-tapes.txt", "writer-answers.txt", tapes)
+    print(f"recorded: {len(files)} reader inputs, {len(tapes)} tapes")
+
+
+if __name__ == "__main__":
+    main()
