@@ -1,0 +1,33 @@
+-- `array_at`: the number of references, where they fit.
+use mathlib.Core.Path.{sym, _∙_}
+use borrow.Author.Needs.{needs}
+use Rattle.number.specs.WidthLaws.{bytesIn-pos}
+use Rattle.object.specs.Found.{numberOf, valuesOf, foundOf}
+use Rattle.object.specs.Object.{arrayIn}
+use Rattle.object.proofs.read.array_at.Statement.{statement}
+use Rattle.object.proofs.read.array_at.Tie as tie
+
+bytes-in-requires : tie.Need-bytes-in-requires
+bytes-in-requires c κs = search needs
+
+content-at-requires : tie.Need-content-at-requires
+content-at-requires c κs = (search needs, rw (c .bytes-in .ensures) (bytesIn-pos _))
+
+enum-known-extent : tie.Need-enum-known-extent
+enum-known-extent c = search needs
+
+enum-told : tie.Need-enum-told
+enum-told c = search needs
+
+returns : tie.Need-returns
+unfolding foundOf numberOf valuesOf arrayIn
+returns c = rw (← c .before .before .before .bytes-in .ensures, sym (c .before .before .content-at .ensures) ∙ c .enum-told .given .1)
+
+returns-2 : tie.Need-returns-2
+unfolding foundOf arrayIn
+returns-2 c = rw (← c .before .before .before .before .bytes-in .ensures, sym (c .before .before .before .content-at .ensures) ∙ c .before .extent .given .1)
+
+pub array-at-spec : {M : Type 1} → statement M
+array-at-spec =
+    tie.close
+    (tie.spec bytes-in-requires content-at-requires enum-known-extent enum-told returns returns-2)

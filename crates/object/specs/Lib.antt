@@ -1,0 +1,12 @@
+pub mod Cases
+pub mod Container
+pub mod ContainerLaws
+pub mod Content
+pub mod ContentLaws
+pub mod Found
+pub mod FoundLaws
+pub mod Kind
+pub mod KindLaws
+pub mod Object
+pub mod ObjectLaws
+pub mod PartLaws

@@ -1,0 +1,81 @@
+// The length of an object that has one, and whether there is room for it.
+use number::be::Number;
+ghost use mathlib.Core.Path.{_≡_};
+ghost use Prim.Native.Nat.{_+_, _*_, _≤_, _<_};
+ghost use lib.ListN.{length};
+ghost use Rattle.number.specs.Be.{be};
+ghost use Rattle.object.specs.Content.{part, lengthWidth, extentAt, roomFor, contentAt};
+
+// Where the content of an object stands, and how many elements it has: bytes, units, references or pairs.
+pub struct Extent {
+    pub start: usize,
+    pub count: u64,
+}
+
+pub enum Content {
+    Fits(Extent),
+    TooLarge,
+}
+
+// How many bytes a length has, by the byte in front of it.
+fn length_width(byte: u8) -> usize
+    ensures { λ r. ⌜ r ≡ lengthWidth byte ⌝ }
+{
+    match byte % 4 {
+        0 => 1,
+        1 => 2,
+        2 => 4,
+        _ => 8,
+    }
+}
+
+// The number of 1 to 8 bytes that stand in the file.
+pub(crate) fn be_at(file: &[u8], at: usize, width: usize) -> u64
+    requires { ⌜ (0 < width) × (width ≤ 8) × (at + width ≤ length (now file)) ⌝ }
+    ensures { λ r. ⌜ r ≡ be (part (now (file .entry)) at width) ⌝ }
+{
+    let Number::Of(n) = number::be::read_be(&file[at..at + width]) else {
+        return 0;
+    };
+    n
+}
+
+// The extent of an object whose marker has these low four bits; its head lies within the file.
+pub(crate) fn extent_at(file: &[u8], offset: usize, nibble: u8) -> Extent
+    requires { ⌜ offset + 10 ≤ length (now file) ⌝ }
+    ensures { λ r. ⌜ r ≡ extentAt (now (file .entry)) offset nibble ⌝ }
+{
+    if nibble != 15 {
+        return Extent {
+            start: offset + 1,
+            count: nibble as u64,
+        };
+    }
+    let width = length_width(file[offset + 1]);
+    let count = be_at(file, offset + 2, width);
+    Extent {
+        start: offset + 2 + width,
+        count,
+    }
+}
+
+// Whether content of so many elements, of so many bytes each, has room behind an object's offset.
+fn has_room(file: &[u8], offset: usize, count: u64, each: usize) -> bool
+    requires { ⌜ (offset + 32 ≤ length (now file)) × (0 < each) ⌝ }
+    ensures { λ r. ⌜ r ≡ roomFor (now (file .entry)) offset (count * each) ⌝ }
+{
+    let room = file.len() - 32 - offset;
+    count <= (room / each) as u64
+}
+
+// The content of such an object, where there is room for it.
+pub(crate) fn content_at(file: &[u8], offset: usize, nibble: u8, each: usize) -> Content
+    requires { ⌜ (offset + 32 ≤ length (now file)) × (0 < each) ⌝ }
+    ensures { λ r. ⌜ r ≡ contentAt (now (file .entry)) offset nibble each ⌝ }
+{
+    let extent = extent_at(file, offset, nibble);
+    if has_room(file, offset, extent.count, each) {
+        return Content::Fits(extent);
+    }
+    Content::TooLarge
+}

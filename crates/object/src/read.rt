@@ -1,0 +1,173 @@
+// The object at an offset: its kind, its length, its room, its content.
+use crate::content::Content;
+use crate::content::be_at;
+use crate::content::content_at;
+use crate::kind::Kind;
+use crate::kind::kind_of;
+use event::Event;
+use event::Integer;
+use event::real::real_of;
+use event::real::short_real_of;
+use number::signed::signed_of;
+use number::width::Width;
+use number::width::bytes_in;
+use unicode::utf8::is_utf8;
+use unicode::utf16::is_utf16;
+ghost use mathlib.Core.Path.{_≡_};
+ghost use Prim.Native.Nat.{_+_, _≤_};
+ghost use lib.ListN.{length};
+ghost use Rattle.number.specs.Width.{bytesIn};
+ghost use Rattle.event.specs.declared.Event.the-variants.{Integer as IntegerEvent};
+ghost use Rattle.object.specs.Content.{part, contentAt};
+ghost use Rattle.object.specs.Found.{foundOf};
+ghost use Rattle.object.specs.Object.{scalar, objectAt, wideIn, dataIn, utf8In, utf16In, arrayIn, dictionaryIn};
+
+// Bytes of the file.
+pub struct Part {
+    pub start: usize,
+    pub length: usize,
+}
+
+// Why there is no object, by the names of document 01.
+pub enum Refusal {
+    EndOfInput,
+    ObjectOffsetTooLarge,
+    NullObjectUnimplemented,
+    FillObjectUnimplemented,
+    UnknownObjectType(u8),
+    IntegerOutOfRange,
+    InvalidUtf8String,
+    InvalidUtf16String,
+}
+
+// Outside is an offset at or above the trailer. A container has its number of elements or pairs.
+pub enum Object {
+    Outside,
+    Refused(Refusal),
+    Scalar(Event),
+    Data(Part),
+    Utf8(Part),
+    Utf16(Part),
+    Array(u64),
+    Dictionary(u64),
+}
+
+// The object whose marker stands at an offset of the file.
+pub fn object_at(file: &[u8], refs: Width, offset: usize) -> Object
+    ensures { λ r. ⌜ foundOf r ≡ objectAt (now (file .entry)) refs offset ⌝ }
+{
+    if file.len() < 32 {
+        return Object::Outside;
+    }
+    if file.len() - 32 <= offset {
+        return Object::Outside;
+    }
+    match kind_of(file[offset]) {
+        Kind::Null => Object::Refused(Refusal::NullObjectUnimplemented),
+        Kind::False => Object::Scalar(Event::Boolean(false)),
+        Kind::True => Object::Scalar(Event::Boolean(true)),
+        Kind::Fill => Object::Refused(Refusal::FillObjectUnimplemented),
+        Kind::Unsigned(width) => integer(Integer::Unsigned(be_at(file, offset + 1, width))),
+        Kind::Signed => integer(Integer::Signed(signed_of(be_at(file, offset + 1, 8)))),
+        Kind::Wide => wide_at(file, offset),
+        Kind::ShortReal => Object::Scalar(short_real_of(be_at(file, offset + 1, 4) as u32)),
+        Kind::Real => Object::Scalar(real_of(be_at(file, offset + 1, 8))),
+        Kind::Date => Object::Scalar(Event::Date(be_at(file, offset + 1, 8))),
+        Kind::Data(nibble) => data_at(file, offset, nibble),
+        Kind::Utf8(nibble) => utf8_at(file, offset, nibble),
+        Kind::Utf16(nibble) => utf16_at(file, offset, nibble),
+        Kind::Uid(width) => Object::Scalar(Event::Uid(be_at(file, offset + 1, width))),
+        Kind::Array(nibble) => array_at(file, refs, offset, nibble),
+        Kind::Dictionary(nibble) => dictionary_at(file, refs, offset, nibble),
+        Kind::Unknown(marker) => Object::Refused(Refusal::UnknownObjectType(marker)),
+    }
+}
+
+fn integer(i: Integer) -> Object
+    ensures { λ r. ⌜ foundOf r ≡ scalar (IntegerEvent i) ⌝ }
+{
+    Object::Scalar(Event::Integer(i))
+}
+
+// 16 bytes are accepted where the high half is zero.
+fn wide_at(file: &[u8], offset: usize) -> Object
+    requires { ⌜ offset + 32 ≤ length (now file) ⌝ }
+    ensures { λ r. ⌜ foundOf r ≡ wideIn (part (now (file .entry)) (offset + 1) 16) ⌝ }
+{
+    if be_at(file, offset + 1, 8) != 0 {
+        return Object::Refused(Refusal::IntegerOutOfRange);
+    }
+    integer(Integer::Unsigned(be_at(file, offset + 9, 8)))
+}
+
+fn data_at(file: &[u8], offset: usize, nibble: u8) -> Object
+    requires { ⌜ offset + 32 ≤ length (now file) ⌝ }
+    ensures { λ r. ⌜ foundOf r ≡ dataIn (contentAt (now (file .entry)) offset nibble 1) ⌝ }
+{
+    let Content::Fits(extent) = content_at(file, offset, nibble, 1) else {
+        return Object::Refused(Refusal::ObjectOffsetTooLarge);
+    };
+    Object::Data(Part {
+        start: extent.start,
+        length: extent.count as usize,
+    })
+}
+
+fn utf8_at(file: &[u8], offset: usize, nibble: u8) -> Object
+    requires { ⌜ offset + 32 ≤ length (now file) ⌝ }
+    ensures { λ r. ⌜ foundOf r ≡ utf8In (now (file .entry)) (contentAt (now (file .entry)) offset nibble 1) ⌝ }
+{
+    let Content::Fits(extent) = content_at(file, offset, nibble, 1) else {
+        return Object::Refused(Refusal::ObjectOffsetTooLarge);
+    };
+    let start = extent.start;
+    let length = extent.count as usize;
+    if is_utf8(&file[start..start + length]) {
+        return Object::Utf8(Part { start, length });
+    }
+    Object::Refused(Refusal::InvalidUtf8String)
+}
+
+fn utf16_at(file: &[u8], offset: usize, nibble: u8) -> Object
+    requires { ⌜ offset + 32 ≤ length (now file) ⌝ }
+    ensures { λ r. ⌜ foundOf r ≡ utf16In (now (file .entry)) (contentAt (now (file .entry)) offset nibble 2) ⌝ }
+{
+    let Content::Fits(extent) = content_at(file, offset, nibble, 2) else {
+        return Object::Refused(Refusal::ObjectOffsetTooLarge);
+    };
+    let start = extent.start;
+    let length = extent.count as usize * 2;
+    if is_utf16(&file[start..start + length]) {
+        return Object::Utf16(Part { start, length });
+    }
+    Object::Refused(Refusal::InvalidUtf16String)
+}
+
+fn array_at(file: &[u8], refs: Width, offset: usize, nibble: u8) -> Object
+    requires { ⌜ offset + 32 ≤ length (now file) ⌝ }
+    ensures { λ r. ⌜ foundOf r ≡ arrayIn (contentAt (now (file .entry)) offset nibble (bytesIn refs)) ⌝ }
+{
+    let Content::Fits(extent) = content_at(file, offset, nibble, bytes_in(refs)) else {
+        return Object::Refused(Refusal::ObjectOffsetTooLarge);
+    };
+    Object::Array(extent.count)
+}
+
+// The keys have room; the values may run past the file's end, and both together past the trailer.
+fn dictionary_at(file: &[u8], refs: Width, offset: usize, nibble: u8) -> Object
+    requires { ⌜ offset + 32 ≤ length (now file) ⌝ }
+    ensures { λ r. ⌜ foundOf r ≡ dictionaryIn (now (file .entry)) offset (bytesIn refs) (contentAt (now (file .entry)) offset nibble (bytesIn refs)) ⌝ }
+{
+    let each = bytes_in(refs);
+    let Content::Fits(extent) = content_at(file, offset, nibble, each) else {
+        return Object::Refused(Refusal::ObjectOffsetTooLarge);
+    };
+    let both = 2 * (extent.count as usize * each);
+    if file.len() < extent.start + both {
+        return Object::Refused(Refusal::EndOfInput);
+    }
+    if file.len() - 32 < offset + both {
+        return Object::Refused(Refusal::ObjectOffsetTooLarge);
+    }
+    Object::Dictionary(extent.count)
+}

@@ -1,0 +1,70 @@
+-- `count_units` adds up what each byte tells: what is counted and what is left make the whole.
+use mathlib.Core.Path.{_≡_}
+use Prim.Native.Nat.{_+_, _-_, _≤_}
+use native.Mathlib.Omega.{arith}
+use borrow.Author.Needs.{needs}
+use lib.ListN.{length, getD, drop, drop-of-length-le}
+use Rattle.unicode.specs.ToUtf16Walk.{unitsFrom, unitsIn, counted}
+use Rattle.unicode.proofs.Left.{left-at}
+use Rattle.unicode.proofs.to_utf16.count_units.Statement.{statement}
+use Rattle.unicode.proofs.to_utf16.count_units.Tie as tie
+
+abbrev Inv-loop : tie.InvT-loop
+Inv-loop s count₀ i₀ count i = (i ≤ length s) × (count + unitsIn (drop i s) ≡ unitsIn s)
+
+abbrev μ-loop : tie.MeasureT-loop
+μ-loop s count₀ i₀ count i = length s - i
+
+loop-holds : tie.Need-loop-holds Inv-loop μ-loop
+loop-holds c = (omega arith, omega arith)
+
+shared-slice-read-units-from : tie.Need-shared-slice-read-units-from Inv-loop μ-loop
+shared-slice-read-units-from c = omega arith
+
+units-from-requires : tie.Need-units-from-requires Inv-loop μ-loop
+units-from-requires c κs = search needs
+
+-- the byte at i, and what is left after it
+at-byte :
+    (c : tie.After-units-from Inv-loop μ-loop) →
+    let i = c .before .before .before .loop .i in
+    let s = c .before .before .before .before .before .args .s .now in
+    unitsIn (drop i s) ≡ unitsFrom (getD s i 0) + unitsIn (drop (i + 1) s)
+unfolding unitsIn
+at-byte c = rw (left-at (c .before .before .before .before .before .args .s .now) (c .before .before .before .loop .i) (c .before .before .loop-test .taken))
+
+add-count : tie.Need-add-count Inv-loop μ-loop
+add-count c =
+    let s = c .before .before .before .before .before .args .s .now in
+    omega (arith, c .units-from .ensures, at-byte c, counted s (c .before .before .before .before .before .pre) .1)
+
+add-i : tie.Need-add-i Inv-loop μ-loop
+add-i c = omega arith
+
+loop-less : tie.Need-loop-less Inv-loop μ-loop
+loop-less c = omega arith
+
+loop-again : tie.Need-loop-again Inv-loop μ-loop
+loop-again c = (omega arith, omega (arith, c .units-from .ensures, at-byte c))
+
+returns : tie.Need-returns Inv-loop μ-loop
+unfolding unitsIn
+returns c =
+    let s = c .before .before .before .args .s .now in
+    let e : c .before .loop .count + 0 ≡ unitsIn s = rw (drop-of-length-le s (c .loop-test .left)) at (c .before .loop .inv .1) in
+    omega (arith, counted s (c .before .before .before .pre) .0)
+
+pub count-units-spec : {M : Type 1} → statement M
+count-units-spec =
+    tie.close
+    (tie.spec
+    Inv-loop
+    μ-loop
+    loop-holds
+    shared-slice-read-units-from
+    units-from-requires
+    add-count
+    add-i
+    loop-less
+    loop-again
+    returns)

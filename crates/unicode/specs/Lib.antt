@@ -1,0 +1,17 @@
+pub mod Unicode
+pub mod Examples
+pub mod Interval
+pub mod Tests
+pub mod Bounds
+pub mod ScalarLaws
+pub mod Utf8Laws
+pub mod Utf8Bits
+pub mod Utf8Walk
+pub mod Utf16
+pub mod Utf16At
+pub mod Utf16Laws
+pub mod Changed
+pub mod ChangedAnswers
+pub mod ToUtf16
+pub mod ToUtf16Walk
+pub mod ChangeLaws

@@ -1,0 +1,5 @@
+// Text: UTF-8 and UTF-16, checked and changed into each other.
+pub mod changed;
+pub mod to_utf16;
+pub mod utf16;
+pub mod utf8;

@@ -1,0 +1,156 @@
+// UTF-8 changed to UTF-16 of big-endian byte pairs: measured, then written.
+use crate::changed::Changed;
+use crate::utf8::is_utf8;
+ghost use mathlib.Core.Path.{_≡_};
+ghost use mathlib.Core.Bool.{true};
+ghost use mathlib.Core.List.{[], _∷_};
+ghost use Prim.Native.Nat.{_+_, _*_, _/_, _%_, _≤_, _<_};
+ghost use lib.ListN.{length, getD, drop};
+ghost use lib.Seq.{sets};
+ghost use Rattle.unicode.specs.Unicode.{isUtf8, scalars8, utf16Of, utf16, unitBytes, toUtf16};
+ghost use Rattle.unicode.specs.Changed.{changedOf, changedTo};
+ghost use Rattle.unicode.specs.ToUtf16.{utf16UnitsOf};
+ghost use Rattle.unicode.specs.ToUtf16Walk.{unitsFrom, ScalarAt};
+
+// How many units a text has in UTF-16.
+pub enum Units {
+    Count(usize),
+    NotUtf8,
+}
+
+// A scalar value, and where the next one begins.
+struct Scalar {
+    value: u32,
+    next: usize,
+}
+
+// The number of units of a text.
+pub fn utf16_units(s: &[u8]) -> Units
+    ensures { λ r. ⌜ r ≡ utf16UnitsOf (now (s .entry)) ⌝ }
+{
+    if is_utf8(s) {
+        return Units::Count(count_units(s));
+    }
+    Units::NotUtf8
+}
+
+// The text in UTF-16 at the start of the lent memory, where it is a text and fits. It is measured first, so that a refusal changes nothing.
+pub fn utf8_to_utf16(s: &[u8], out: &mut [u8]) -> Changed
+    ensures { λ r. ⌜ r ≡ changedOf (isUtf8 (now (s .entry))) (toUtf16 (now (s .entry))) (now (out .entry)) ⌝ }
+    ensures { λ _. ⌜ now (out .exit) ≡ changedTo (isUtf8 (now (s .entry))) (toUtf16 (now (s .entry))) (now (out .entry)) ⌝ }
+{
+    let Units::Count(units) = utf16_units(s) else {
+        return Changed::NotText;
+    };
+    if out.len() / 2 < units {
+        return Changed::NoRoom;
+    }
+    write_utf16(s, out);
+    Changed::Written(units * 2)
+}
+
+// Each byte tells by itself how many units it adds: a first byte one or two, a later byte none.
+fn count_units(s: &[u8]) -> usize
+    requires { ⌜ isUtf8 (now s) ≡ true ⌝ }
+    ensures { λ r. ⌜ r ≡ length (utf16 (scalars8 (now (s .entry)))) ⌝ }
+{
+    let mut count: usize = 0;
+    let mut i: usize = 0;
+    while i < s.len() {
+        count += units_from(s[i]);
+        i += 1;
+    }
+    count
+}
+
+fn units_from(b: u8) -> usize
+    ensures { λ r. ⌜ r ≡ unitsFrom b ⌝ }
+{
+    if b < 0x80 {
+        return 1;
+    }
+    if b < 0xC0 {
+        return 0;
+    }
+    if b < 0xF0 {
+        return 1;
+    }
+    2
+}
+
+// Each scalar value of a text in turn, where there is room for all.
+fn write_utf16(s: &[u8], out: &mut [u8])
+    requires { ⌜ (isUtf8 (now s) ≡ true) × (length (toUtf16 (now s)) ≤ length (now out)) ⌝ }
+    ensures { λ _. ⌜ now (out .exit) ≡ sets (now (out .entry)) 0 (toUtf16 (now (s .entry))) ⌝ }
+{
+    let mut i: usize = 0;
+    let mut at: usize = 0;
+    while i < s.len() {
+        let c = scalar_at(s, i);
+        at = put_units(out, at, c.value);
+        i = c.next;
+    }
+}
+
+// The scalar value that begins at i, where the text from there on is well formed.
+fn scalar_at(s: &[u8], i: usize) -> Scalar
+    requires { ⌜ (isUtf8 (drop i (now s)) ≡ true) × (i < length (now s)) ⌝ }
+    ensures { λ r. ⌜ ScalarAt (now (s .entry)) i (r .value) (r .next) ⌝ }
+{
+    let b = s[i] as u32;
+    if b < 0x80 {
+        return Scalar {
+            value: b,
+            next: i + 1,
+        };
+    }
+    if b < 0xE0 {
+        return Scalar {
+            value: six_more(b % 0x20, s, i + 1),
+            next: i + 2,
+        };
+    }
+    if b < 0xF0 {
+        return Scalar {
+            value: six_more(six_more(b % 0x10, s, i + 1), s, i + 2),
+            next: i + 3,
+        };
+    }
+    Scalar {
+        value: six_more(six_more(six_more(b % 8, s, i + 1), s, i + 2), s, i + 3),
+        next: i + 4,
+    }
+}
+
+// A scalar value's bits so far, and the six that a later byte adds.
+fn six_more(bits: u32, s: &[u8], i: usize) -> u32
+    requires { ⌜ (bits < 0x8000) × (i < length (now s)) ⌝ }
+    ensures { λ r. ⌜ r ≡ bits * 0x40 + getD (now (s .entry)) i 0 % 0x40 ⌝ }
+{
+    bits * 0x40 + s[i] as u32 % 0x40
+}
+
+// The units of a scalar value from at on, and the place after them.
+fn put_units(out: &mut [u8], at: usize, v: u32) -> usize
+    requires { ⌜ (at + length (unitBytes (utf16Of v)) ≤ length (now out)) × (v < 0x110000) ⌝ }
+    ensures { λ r. ⌜ r ≡ at + length (unitBytes (utf16Of v)) ⌝ }
+    ensures { λ _. ⌜ now (out .exit) ≡ sets (now (out .entry)) at (unitBytes (utf16Of v)) ⌝ }
+{
+    if v < 0x10000 {
+        put_unit(out, at, v);
+        return at + 2;
+    }
+    let above = v - 0x10000;
+    put_unit(out, at, 0xD800 + above / 0x400);
+    put_unit(out, at + 2, 0xDC00 + above % 0x400);
+    at + 4
+}
+
+// A unit is two bytes, the high one first.
+fn put_unit(out: &mut [u8], at: usize, u: u32)
+    requires { ⌜ (at + 2 ≤ length (now out)) × (u < 0x10000) ⌝ }
+    ensures { λ _. ⌜ now (out .exit) ≡ sets (now (out .entry)) at ((u / 256) ∷ (u % 256) ∷ []) ⌝ }
+{
+    out[at] = (u / 256) as u8;
+    out[at + 1] = (u % 256) as u8;
+}
