@@ -1,0 +1,27 @@
+-- What is left of the open containers decides whether an object is among them.
+use Prim.Native.Nat.{ℕ, suc, _+_, _≤_, _<_}
+use mathlib.Core.Bool.{Bool, true, false, _||_}
+use mathlib.Core.List.{List, [], _∷_, map}
+use mathlib.Core.Path.{_≡_, refl, sym, _∙_}
+use native.Mathlib.Numerals.{add-one}
+use native.Mathlib.Omega.{arith}
+use lib.Dec.{eqb}
+use lib.ListN.{length, getD, take, drop, drop-of-length-le, length-map}
+use lib.Seq.{drop-cons, getD-take, length-take-le}
+use Rattle.reader.specs.State.{memberOf, noFrame}
+use Rattle.reader.specs.declared.state.Frame.{Frame}
+
+-- how long a field is that is an array of structs: what owning the struct tells of it, taken off the map under which it tells it
+pub unmapped : (X Y : Type 0) (f : X → Y) (l : List X) (n : ℕ) → length (map f l) ≡ n → length l ≡ n
+unmapped X Y f l n p = sym (length-map l f) ∙ p
+
+module _ (l : List Frame) (held n : ℕ) (fits : held ≤ length l) where
+  pub left-at : (i : ℕ) → i < held → memberOf (drop i (take held l)) n ≡ (eqb (getD l i noFrame .object) n || memberOf (drop (i + 1) (take held l)) n)
+  unfolding memberOf
+  left-at i h =
+      let k : i < length (take held l) = rw length-take-le h in
+      rw (add-one i, drop-cons (take held l) i noFrame k, getD-take held l i noFrame h)
+
+  pub left-none : memberOf (drop held (take held l)) n ≡ false
+  unfolding memberOf
+  left-none = rw (drop-of-length-le (take held l) {i = held} (omega (arith, length-take-le held l fits)))

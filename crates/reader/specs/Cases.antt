@@ -1,0 +1,82 @@
+-- Document 01's cases of reading, in one table: what the first three calls on each file answer.
+use mathlib.Core.Bool.{true, false}
+use mathlib.Core.List.{List, [], _∷_, _++_, map}
+use mathlib.Core.Option.{some}
+use mathlib.Core.Path.{_≡_, refl}
+use Prim.Native.Nat.{ℕ, zero, suc, _+_, _*_}
+use lib.IntN.{pos, negsuc}
+use lib.ListN.{length, replicate, drop}
+use Rattle.number.specs.Be.{be, onto}
+use Rattle.number.specs.Signed.{signedOf}
+use Rattle.number.specs.Width.{widthOf, bytesIn}
+use Rattle.unicode.specs.Unicode.{isUtf16, isEven, paired, unitsOf, isHigh, isLow, toUtf8, utf8, utf8Of, scalars16}
+use Rattle.event.specs.Meaning.{Meaning, array, close, integer, bytes, text, meaningOf, valueOf, givenOf}
+use Rattle.object.specs.Container.{containerAt, containerOf}
+use Rattle.object.specs.Content.{contentAt, extentAt, roomFor, lengthWidth}
+use Rattle.object.specs.Kind.{kindOf}
+use Rattle.object.specs.Object.{objectAt, byKind, wideIn, dataIn, utf16In, arrayIn}
+use Rattle.reader.specs.Layout.{numberAt, entryAt, given, dueAt, inArray, dueIn, dueFrom, dueOf, lookIn, lookFrom, lookOf, sourceOf}
+use Rattle.reader.specs.Machine.{startOf, enter, arrive, follow, stepOf}
+use Rattle.reader.specs.Meanings.{Told, means, ended, refused, answers, told, meaningAt, bytesAsked}
+use Rattle.reader.specs.Next.{laidOut, begin, withRefs, goOn, nextOf}
+use Rattle.reader.specs.Request.{dataAsked, textAsked, eventAsked}
+use Rattle.reader.specs.State.{freshReader, openOf, innermost, memberOf, advanced, passed, entered, nextIn, closed}
+use Rattle.reader.specs.Trailer.{magic, begins, eightAt, tableOf, refSizeOf, sizesOf, trailerOf}
+
+-- a number below 256 in 8 bytes, and a trailer with sizes of 1 byte: count, root 0, table offset
+abbrev eight : ℕ → List ℕ
+eight n = replicate 7 0 ++ (n ∷ [])
+
+abbrev trailer : ℕ → ℕ → List ℕ
+trailer count table = replicate 6 0 ++ (1 ∷ 1 ∷ []) ++ eight count ++ eight 0 ++ eight table
+
+-- a file of one object at 8, and one whose only object stands at an offset of the header
+abbrev one : List ℕ → List ℕ
+one object = magic ++ object ++ (8 ∷ []) ++ trailer 1 (8 + length object)
+
+abbrev inHeader : ℕ → List ℕ
+inHeader offset = magic ++ (offset ∷ []) ++ trailer 1 8
+
+pub record Case : Type 0 where
+  pub file : List ℕ
+  pub answer : List Told
+
+-- P2 to P8 and P12
+abbrev pub cases : List Case
+cases =
+    record { file = one (0x10 ∷ 0xFF ∷ []); answer = means (integer (pos 255)) 8 ∷ ended ∷ ended ∷ [] } ∷
+    record { file = one (0x13 ∷ 0x80 ∷ replicate 7 0); answer = means (integer (negsuc 9_223_372_036_854_775_807)) 8 ∷ ended ∷ ended ∷ [] } ∷
+    record { file = one (0x14 ∷ replicate 8 0 ++ replicate 8 0xFF); answer = means (integer (pos 18_446_744_073_709_551_615)) 8 ∷ ended ∷ ended ∷ [] } ∷
+    record { file = one (0x14 ∷ replicate 16 0xFF); answer = refused 11 [] 8 ∷ ended ∷ ended ∷ [] } ∷
+    record { file = one (0x4F ∷ 0x10 ∷ 0x02 ∷ 0xAB ∷ 0xCD ∷ []); answer = means (bytes (0xAB ∷ 0xCD ∷ [])) 8 ∷ ended ∷ ended ∷ [] } ∷
+    record { file = one (0x4F ∷ 0x50 ∷ 0x02 ∷ 0xAB ∷ 0xCD ∷ []); answer = means (bytes (0xAB ∷ 0xCD ∷ [])) 8 ∷ ended ∷ ended ∷ [] } ∷
+    record { file = one (0x4F ∷ 0x14 ∷ 0x02 ∷ 0xAB ∷ 0xCD ∷ []); answer = means (bytes (0xAB ∷ 0xCD ∷ [])) 8 ∷ ended ∷ ended ∷ [] } ∷
+    record { file = one (0x61 ∷ 0xD8 ∷ 0x00 ∷ []); answer = refused 13 [] 8 ∷ ended ∷ ended ∷ [] } ∷
+    record { file = inHeader 0; answer = means (text (0xE7 ∷ 0x81 ∷ 0xAC ∷ 0xE6 ∷ 0xA5 ∷ 0xB3 ∷ [])) 0 ∷ ended ∷ ended ∷ [] } ∷
+    record { file = one (0xA1 ∷ 0x00 ∷ []); answer = means (array (some 1)) 8 ∷ refused 14 [] 8 ∷ ended ∷ [] } ∷
+    []
+
+pub cases-right : map (λ (c : Case). answers 3 (c .file) freshReader) cases ≡ map (λ (c : Case). c .answer) cases
+unfolding be onto signedOf widthOf bytesIn isUtf16 isEven paired unitsOf isHigh isLow toUtf8 utf8 utf8Of scalars16 meaningOf valueOf givenOf containerAt containerOf contentAt extentAt roomFor lengthWidth kindOf objectAt byKind wideIn dataIn utf16In arrayIn numberAt entryAt given dueAt inArray dueIn dueFrom dueOf lookIn lookFrom lookOf sourceOf startOf enter arrive follow stepOf answers told meaningAt bytesAsked laidOut begin withRefs goOn nextOf dataAsked textAsked eventAsked openOf innermost memberOf advanced passed entered nextIn magic begins eightAt tableOf refSizeOf sizesOf trailerOf
+cases-right = refl
+
+-- n arrays, each inside the last, from 8 on, and the table of their offsets
+abbrev inside : ℕ → ℕ → List ℕ
+inside zero i = 0xA0 ∷ []
+inside (suc n) i = 0xA1 ∷ i ∷ inside n (i + 1)
+
+abbrev offsets : ℕ → ℕ → List ℕ
+offsets zero at = at ∷ []
+offsets (suc n) at = at ∷ offsets n (at + 2)
+
+abbrev nested : ℕ → List ℕ
+nested n = magic ++ inside n 1 ++ offsets n 8 ++ trailer (n + 1) (9 + 2 * n)
+
+-- "64 arrays, each inside the last, are read .. with 65 both give 15 at the 65th (its offset ..)"
+pub deep-64 : drop 63 (answers 65 (nested 63) freshReader) ≡ means (array (some 0)) 134 ∷ means close 134 ∷ []
+unfolding be onto widthOf bytesIn meaningOf valueOf givenOf containerAt containerOf contentAt extentAt roomFor lengthWidth kindOf objectAt byKind arrayIn numberAt entryAt given dueAt inArray dueIn dueFrom dueOf lookIn lookFrom lookOf sourceOf startOf enter arrive follow stepOf answers told meaningAt bytesAsked laidOut begin withRefs goOn nextOf eventAsked openOf innermost memberOf advanced passed entered nextIn magic begins eightAt tableOf refSizeOf sizesOf trailerOf closed
+deep-64 = refl
+
+pub deep-65 : drop 63 (answers 66 (nested 64) freshReader) ≡ means (array (some 1)) 134 ∷ refused 15 [] 136 ∷ ended ∷ []
+unfolding be onto widthOf bytesIn meaningOf valueOf givenOf containerAt containerOf contentAt extentAt roomFor lengthWidth kindOf objectAt byKind arrayIn numberAt entryAt given dueAt inArray dueIn dueFrom dueOf lookIn lookFrom lookOf sourceOf startOf enter arrive follow stepOf answers told meaningAt bytesAsked laidOut begin withRefs goOn nextOf eventAsked openOf innermost memberOf advanced passed entered nextIn magic begins eightAt tableOf refSizeOf sizesOf trailerOf closed
+deep-65 = refl

@@ -1,0 +1,12 @@
+pub mod Cases
+pub mod Fetching
+pub mod Layout
+pub mod Machine
+pub mod Meanings
+pub mod Next
+pub mod NextLaws
+pub mod Request
+pub mod Said
+pub mod SaidLaws
+pub mod State
+pub mod Trailer

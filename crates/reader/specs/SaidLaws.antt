@@ -1,0 +1,80 @@
+-- Two answers that say the same are the same.
+use mathlib.Core.Bool.{cond}
+use mathlib.Core.List.{List, [], _∷_}
+use mathlib.Core.Path.{_≡_, refl, sym, ap, ap₂, _∙_}
+use Prim.Native.Nat.{ℕ}
+use lib.ListN.{getD}
+use Rattle.reader.specs.Machine.{Said, event, ended, refused, Step}
+use Rattle.reader.specs.Request.{TextSaid, long, refusing}
+use Rattle.reader.specs.Said.{numberOf, valuesOf, said, stepSaid, textSaid}
+use Rattle.reader.specs.declared.answer.Answer.{Answer}
+use Rattle.reader.specs.declared.answer.Answer.the-variants.{Handed, Ended, Refused}
+use Rattle.reader.specs.declared.answer.Refusal.{Refusal}
+use Rattle.reader.specs.declared.answer.Refusal.the-variants.{TooLong, EndOfInput, InvalidMagic, InvalidTrailerObjectOffsetSize, InvalidTrailerObjectReferenceSize, ObjectOffsetTooLarge, ObjectReferenceTooLarge, NullObjectUnimplemented, FillObjectUnimplemented, UnknownObjectType, IntegerOutOfRange, InvalidUtf8String, InvalidUtf16String, RecursiveObject, TooDeep, NoRoomForText, WrongFile}
+use Rattle.reader.specs.declared.answer.Stepped.{Stepped}
+use Rattle.reader.specs.declared.request.TextLength.{TextLength}
+use Rattle.reader.specs.declared.request.TextLength.the-variants.{Length}
+use Rattle.reader.specs.declared.request.TextLength.the-variants as text
+
+-- the refusals in the order of their numbers, the marker of 10 given
+named : ℕ → List Refusal
+named marker =
+    WrongFile ∷ TooLong ∷ EndOfInput ∷ InvalidMagic ∷ InvalidTrailerObjectOffsetSize ∷ InvalidTrailerObjectReferenceSize ∷ ObjectOffsetTooLarge ∷ ObjectReferenceTooLarge ∷ NullObjectUnimplemented ∷ FillObjectUnimplemented ∷ UnknownObjectType marker ∷ IntegerOutOfRange ∷ InvalidUtf8String ∷ InvalidUtf16String ∷ RecursiveObject ∷ TooDeep ∷ NoRoomForText ∷ WrongFile ∷ []
+
+-- the refusal of a number and values
+refusalFrom : ℕ → List ℕ → Refusal
+refusalFrom number values = getD (named (getD values 0 0)) number TooLong
+
+again : (r : Refusal) → refusalFrom (numberOf r) (valuesOf r) ≡ r
+unfolding numberOf valuesOf refusalFrom named
+again TooLong = refl
+again EndOfInput = refl
+again InvalidMagic = refl
+again InvalidTrailerObjectOffsetSize = refl
+again InvalidTrailerObjectReferenceSize = refl
+again ObjectOffsetTooLarge = refl
+again ObjectReferenceTooLarge = refl
+again NullObjectUnimplemented = refl
+again FillObjectUnimplemented = refl
+again (UnknownObjectType marker) = refl
+again IntegerOutOfRange = refl
+again InvalidUtf8String = refl
+again InvalidUtf16String = refl
+again RecursiveObject = refl
+again TooDeep = refl
+again NoRoomForText = refl
+again WrongFile = refl
+
+-- the answer that says this
+answerFrom : Said → Answer
+answerFrom (event e offset) = Handed (record { event = e; offset = offset })
+answerFrom ended = Ended
+answerFrom (refused number values place) = Refused (refusalFrom number values) place
+
+answer-again : (x : Answer) → answerFrom (said x) ≡ x
+unfolding said answerFrom
+answer-again (Handed r) = refl
+answer-again Ended = refl
+answer-again (Refused r place) = ap (λ (x : Refusal). Refused x place) (again r)
+
+pub said-one : (x y : Answer) → said x ≡ said y → x ≡ y
+said-one x y e = sym (answer-again x) ∙ ap answerFrom e ∙ answer-again y
+
+pub stepSaid-one : (x y : Stepped) → stepSaid x ≡ stepSaid y → x ≡ y
+unfolding stepSaid
+stepSaid-one x y e =
+    let s : x .reader ≡ y .reader = ap (λ (z : Step). z .state) e in
+    let a : x .answer ≡ y .answer = said-one (x .answer) (y .answer) (ap (λ (z : Step). z .answer) e) in
+    rw (s, a)
+
+lengthFrom : TextSaid → TextLength
+lengthFrom (long n) = Length n
+lengthFrom (refusing number values place) = text.Refused (refusalFrom number values) place
+
+length-again : (x : TextLength) → lengthFrom (textSaid x) ≡ x
+unfolding textSaid lengthFrom
+length-again (Length n) = refl
+length-again (text.Refused r place) = ap (λ (x : Refusal). text.Refused x place) (again r)
+
+pub textSaid-one : (x y : TextLength) → textSaid x ≡ textSaid y → x ≡ y
+textSaid-one x y e = sym (length-again x) ∙ ap lengthFrom e ∙ length-again y

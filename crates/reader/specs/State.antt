@@ -1,0 +1,61 @@
+-- The reader's state, and the changes that a step makes to it.
+use mathlib.Core.Bool.{Bool, true, false, cond, _||_}
+use mathlib.Core.List.{List, [], _∷_}
+use Prim.Native.Nat.{ℕ, _+_, _-_}
+use lib.Dec.{eqb}
+use lib.ListN.{replicate, set, getD, take}
+use Rattle.reader.specs.declared.state.Frame.{Frame}
+use Rattle.reader.specs.declared.state.Reader.{Reader}
+
+-- Document 01: "At most 64 containers are open at once"
+abbrev pub maxOpen : ℕ
+maxOpen = 64
+
+-- Document 01: "Files and tapes hold at most 2,147,483,648 bytes."
+abbrev pub maxLength : ℕ
+maxLength = 2_147_483_648
+
+abbrev pub noFrame : Frame
+noFrame = record { object = 0; position = 0; length = 0 }
+
+-- a fresh reader, and one that has ended
+abbrev pub freshReader : Reader
+freshReader = record { fresh = true; length = 0; offsets = 0; refs = 0; count = 0; table = 0; place = 0; held = 0; frames = replicate maxOpen noFrame }
+
+abbrev pub endedReader : Reader
+endedReader = record { fresh = false; length = 0; offsets = 0; refs = 0; count = 0; table = 0; place = 0; held = 0; frames = replicate maxOpen noFrame }
+
+-- the state with other open containers and another place
+abbrev pub moved : Reader → ℕ → ℕ → List Frame → Reader
+moved r place held frames = record { fresh = r .fresh; length = r .length; offsets = r .offsets; refs = r .refs; count = r .count; table = r .table; place = place; held = held; frames = frames }
+
+-- the open containers, outermost first, and the innermost of them
+unfoldable pub openOf : Reader → List Frame
+openOf r = take (r .held) (r .frames)
+
+unfoldable pub innermost : Reader → Frame
+innermost r = getD (r .frames) (r .held - 1) noFrame
+
+-- whether an object is among the open containers
+unfoldable pub memberOf : List Frame → ℕ → Bool
+memberOf [] n = false
+memberOf (f ∷ fs) n = eqb (f .object) n || memberOf fs n
+
+-- the innermost container has handed out one reference more
+unfoldable pub nextIn : Frame → Frame
+nextIn f = record { object = f .object; position = f .position + 1; length = f .length }
+
+unfoldable pub advanced : Reader → List Frame
+advanced r = cond (eqb (r .held) 0) (r .frames) (set (r .frames) (r .held - 1) (nextIn (innermost r)))
+
+-- a scalar was read at a place: the innermost container goes on; a root that is a scalar ends
+unfoldable pub passed : Reader → ℕ → Reader
+passed r place = cond (eqb (r .held) 0) endedReader (moved r place (r .held) (advanced r))
+
+-- a container was read at a place: it is the innermost now
+unfoldable pub entered : Reader → ℕ → ℕ → ℕ → Reader
+entered r object length place = moved r place (r .held + 1) (set (advanced r) (r .held) (record { object = object; position = 0; length = length }))
+
+-- the innermost container is closed and its frame cleared; with the last one the reader has ended
+unfoldable pub closed : Reader → Reader
+closed r = cond (eqb (r .held) 1) endedReader (moved r (r .place) (r .held - 1) (set (r .frames) (r .held - 1) noFrame))

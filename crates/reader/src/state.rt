@@ -1,0 +1,88 @@
+// The reader's state: it goes in by value and comes back by value.
+ghost use mathlib.Core.Path.{_≡_};
+ghost use Rattle.reader.specs.State.{maxOpen, maxLength, freshReader, endedReader};
+
+// An open container: its object's number, how many of its references were handed out, its number of elements or pairs.
+pub struct Frame {
+    pub object: u32,
+    pub position: u32,
+    pub length: u32,
+}
+
+// What a reader keeps between calls: the file's length; from its trailer the sizes of offsets and references, the number of objects and
+// where the offset table begins; the last offset sought; the open containers. Of a fresh reader only the flag counts.
+pub struct Reader {
+    pub fresh: bool,
+    pub length: u32,
+    pub offsets: u8,
+    pub refs: u8,
+    pub count: u32,
+    pub table: u32,
+    pub place: u64,
+    pub held: usize,
+    pub frames: [Frame; Reader::MAX_OPEN],
+}
+
+impl Frame {
+    pub const NONE: Frame = Frame {
+        object: 0,
+        position: 0,
+        length: 0,
+    };
+}
+
+impl Reader {
+    pub const MAX_OPEN: usize = 64;
+
+    pub const MAX_LENGTH: usize = 2_147_483_648;
+
+    pub const FRESH: Reader = Reader {
+        fresh: true,
+        length: 0,
+        offsets: 0,
+        refs: 0,
+        count: 0,
+        table: 0,
+        place: 0,
+        held: 0,
+        frames: [Frame::NONE; Reader::MAX_OPEN],
+    };
+
+    // The state after the last close, after a root that is a scalar, and after every refusal that ends.
+    pub const ENDED: Reader = Reader {
+        fresh: false,
+        length: 0,
+        offsets: 0,
+        refs: 0,
+        count: 0,
+        table: 0,
+        place: 0,
+        held: 0,
+        frames: [Frame::NONE; Reader::MAX_OPEN],
+    };
+
+    // The constants are what the definitions say.
+    pub fn max_open() -> usize
+        ensures { λ r. ⌜ r ≡ maxOpen ⌝ }
+    {
+        Reader::MAX_OPEN
+    }
+
+    pub fn max_length() -> usize
+        ensures { λ r. ⌜ r ≡ maxLength ⌝ }
+    {
+        Reader::MAX_LENGTH
+    }
+
+    pub fn fresh_reader() -> Reader
+        ensures { λ r. ⌜ r ≡ freshReader ⌝ }
+    {
+        Reader::FRESH
+    }
+
+    pub fn ended_reader() -> Reader
+        ensures { λ r. ⌜ r ≡ endedReader ⌝ }
+    {
+        Reader::ENDED
+    }
+}
