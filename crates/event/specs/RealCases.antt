@@ -1,9 +1,9 @@
 -- IEEE 754's worked examples, 32 bits to 64, and document 01's rule for NaN, computed.
-use mathlib.Core.List.{List, [], _∷_, map}
+use mathlib.Core.List.{[], _∷_, map}
 use mathlib.Core.Path.{_≡_, refl}
 use Prim.Native.Nat.{ℕ}
 use lib.Ieee.{nanBits, isNan, ofBits, toBits}
-use Rattle.event.specs.Meaning.{Meaning, real, meaningOf}
+use Rattle.event.specs.Meaning.{real, meaningOf}
 use Rattle.event.specs.Real.{shortRealOf, wideNan, floatBits}
 
 -- 1.5, -0, infinity, 2^-149, the largest subnormal and the largest finite number, then three NaNs

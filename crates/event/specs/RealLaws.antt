@@ -1,12 +1,12 @@
 -- Laws of reals: every pattern of 64 bits comes back.
-use mathlib.Core.Bool.{Bool, true, false, not, _&&_, true≢false, false≢true}
-use mathlib.Core.List.{List, []}
+use mathlib.Core.Bool.{Bool, true, false, not}
+use mathlib.Core.List.{List}
 use mathlib.Core.Path.{_≡_, refl, sym, ap, _∙_}
 use Prim.Native.Nat.{ℕ, _<_, _^_}
 use lib.Dec.{T}
-use lib.Ieee.{Float, binary64, ofBits, toBits, nanBits, isNan}
+use lib.Ieee.{binary64, ofBits, nanBits, isNan}
 use lib.Ieee.Bits.{nanBits-is, toBits-ofBits}
-use Rattle.event.specs.Meaning.{Meaning, real, meaningOf}
+use Rattle.event.specs.Meaning.{real, meaningOf}
 use Rattle.event.specs.Real.{realOf, floatBits}
 
 -- a test that came out false, as the fact that it tells

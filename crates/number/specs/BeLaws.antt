@@ -5,7 +5,7 @@ use Prim.Native.Nat.{ℕ, zero, suc, _+_, _*_, _/_, _%_, _^_, _≤_, _<_}
 use native.Mathlib.Numerals.{add-one}
 use native.Mathlib.Nat.{mul-assoc, mul-comm, add-mul, add-zero, add-suc, suc-add, zero-add, pow-suc, div-lt-iff-lt-mul, lt-of-lt-of-le, pow-le-pow-right}
 use native.Mathlib.Omega.{arith}
-use lib.Arith.{digits-lt, digits-div, digits-mod}
+use lib.Arith.{digits-lt}
 use lib.Dec.{lit<}
 use lib.ListN.{length, getD, length-append}
 use Rattle.number.specs.Be.{be, onto, bytesOf}

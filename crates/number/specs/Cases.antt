@@ -1,12 +1,11 @@
 -- Document 01's cases of numbers, computed: P1, and the bits of P2, P3 and P4.
 use mathlib.Core.Path.{_≡_, refl}
-use mathlib.Core.List.{List, [], _∷_, _++_, map}
-use Prim.Native.Nat.{ℕ, _-_, _^_}
-use lib.IntN.{ℤ, pos, negsuc}
+use mathlib.Core.List.{[], _∷_, _++_, map}
+use lib.IntN.{negsuc}
 use lib.ListN.{replicate}
-use Rattle.number.specs.Be.{be, onto, bytesOf}
-use Rattle.number.specs.Read.{numberOf, halvesOf}
-use Rattle.number.specs.Signed.{signedOf, bitsOf}
+use Rattle.number.specs.Be.{be, onto}
+use Rattle.number.specs.Read.{halvesOf}
+use Rattle.number.specs.Signed.{signedOf}
 use Rattle.number.specs.Size.{sizeOf, rounded, needed}
 use Rattle.number.specs.declared.be.WideNumber.the-variants.{Of}
 

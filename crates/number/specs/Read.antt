@@ -5,7 +5,6 @@ use Prim.Native.Nat.{ℕ}
 use lib.Dec.{ltb, eqb}
 use lib.ListN.{length, take, drop}
 use Rattle.number.specs.Be.{be}
-use Rattle.number.specs.declared.be.Halves.{Halves}
 use Rattle.number.specs.declared.be.Number.{Number}
 use Rattle.number.specs.declared.be.Number.the-variants.{Of, NoNumber}
 use Rattle.number.specs.declared.be.WideNumber.{WideNumber}

@@ -1,6 +1,6 @@
 -- What is due, and what is looked up, stay within 32 bits.
 use Prim.Native.Nat.{ℕ, zero, suc, _+_, _*_, _/_, _%_, _^_, _≤_, _<_}
-use mathlib.Core.Bool.{Bool, true, false, cond}
+use mathlib.Core.Bool.{Bool, true, false}
 use mathlib.Core.List.{List}
 use mathlib.Core.Path.{_≡_, refl}
 use native.Mathlib.Nat.{le-mul-of-pos-right}
@@ -8,19 +8,15 @@ use native.Mathlib.Omega.{arith}
 use borrow.Author.Tests.{ltb-true, leb-true}
 use lib.Dec.{ltb, leb, eqb}
 use lib.ListN.{length}
-use Rattle.number.specs.Be.{be}
 use Rattle.number.specs.Width.{bytesIn}
 use Rattle.number.specs.WidthLaws.{bytesIn-pos}
 use Rattle.number.specs.declared.width.Width.{Width}
 use Rattle.object.specs.Container.{containerAt}
-use Rattle.object.specs.Content.{part}
 use Rattle.object.specs.declared.container.Container.{Container}
 use Rattle.object.specs.declared.container.Container.the-variants.{Array, Dictionary, NoContainer}
-use Rattle.object.specs.declared.content.Extent.{Extent}
 use Rattle.reader.specs.Layout.{numberAt, entryAt, given, dueAt, placeIn, inArray, inDictionary, dueIn, dueFrom, dueOf, lookFrom, lookOf}
-use Rattle.reader.specs.Machine.{Looked, barred, container, Shape}
+use Rattle.reader.specs.Machine.{barred, container, Shape}
 use Rattle.reader.specs.State.{maxLength}
-use Rattle.reader.specs.declared.layout.Due.{Due}
 use Rattle.reader.specs.declared.layout.Due.the-variants.{Wrong, Close, Member}
 use Rattle.reader.specs.declared.layout.Entry.{Entry}
 use Rattle.reader.specs.declared.layout.Entry.the-variants.{Of, Outside}

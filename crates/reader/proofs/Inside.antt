@@ -1,5 +1,5 @@
 -- Data and text that are found lie within the file, and text of 6x is UTF-16.
-use Prim.Native.Nat.{ℕ, _+_, _-_, _*_, _^_, _≤_, _<_}
+use Prim.Native.Nat.{ℕ, _+_, _*_, _^_, _≤_, _<_}
 use mathlib.Core.Bool.{Bool, true, false, cond}
 use mathlib.Core.List.{List}
 use mathlib.Core.Path.{_≡_, refl}
@@ -15,13 +15,12 @@ use Rattle.unicode.specs.Unicode.{isUtf8, isUtf16}
 use Rattle.event.specs.declared.Event.{Event}
 use Rattle.event.specs.declared.Event.the-variants as event
 use Rattle.object.specs.Content.{part, trailerAt, roomFor, contentAt}
-use Rattle.object.specs.ContentLaws.{Fitting, fitting}
+use Rattle.object.specs.ContentLaws.{fitting}
 use Rattle.object.specs.Kind.{kindOf}
 use Rattle.object.specs.Object.{Found, objectAt, byKind, wideIn, dataIn, utf8In, utf16In, arrayIn, dictionaryIn}
 use Rattle.object.specs.Object as found
 use Rattle.object.specs.declared.content.Content.{Content}
 use Rattle.object.specs.declared.content.Content.the-variants.{Fits, TooLarge}
-use Rattle.object.specs.declared.content.Extent.{Extent}
 use Rattle.object.specs.declared.kind.Kind.{Kind}
 use Rattle.object.specs.declared.kind.Kind.the-variants as kind
 use Rattle.reader.specs.Request.{Asked, inFile, wide, denied, dataAsked, textAsked, eventAsked, askedOf}

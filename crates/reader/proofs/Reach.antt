@@ -1,11 +1,11 @@
 -- What a container or an object that was found tells of its numbers: they fit.
-use Prim.Native.Nat.{ℕ, zero, suc, _+_, _-_, _*_, _^_, _≤_, _<_}
+use Prim.Native.Nat.{ℕ, _+_, _*_, _^_, _≤_, _<_}
 use mathlib.Core.Bool.{Bool, true, false, cond}
 use mathlib.Core.List.{List}
 use mathlib.Core.Path.{_≡_, refl}
 use native.Mathlib.Omega.{arith}
 use native.Mathlib.Nat.{le-mul-of-pos-right}
-use borrow.Author.Tests.{lt-ltb, le-ltb, ltb-true}
+use borrow.Author.Tests.{ltb-true}
 use lib.Dec.{ltb, leb}
 use lib.ListN.{length, getD}
 use Rattle.object.specs.Container.{containerAt, containerOf}
@@ -15,7 +15,7 @@ use Rattle.number.specs.WidthLaws.{bytesIn-pos}
 use Rattle.number.specs.declared.width.Width.{Width}
 use Rattle.unicode.specs.Unicode.{isUtf8, isUtf16}
 use Rattle.object.specs.Content.{part, trailerAt, roomFor, contentAt}
-use Rattle.object.specs.ContentLaws.{start-below, Fitting, fitting}
+use Rattle.object.specs.ContentLaws.{start-below, fitting}
 use Rattle.object.specs.Object.{Found, objectAt, byKind, wideIn, dataIn, utf8In, utf16In, arrayIn, dictionaryIn}
 use Rattle.object.specs.Object as found
 use Rattle.object.specs.declared.content.Content.{Content}

@@ -1,11 +1,11 @@
 -- The text of a 6x: what changing it and measuring it tell.
 use Prim.Native.Nat.{ℕ, _+_, _-_, _≤_, _<_}
 use mathlib.Core.Bool.{Bool, true, false}
-use mathlib.Core.List.{List, [], _++_}
+use mathlib.Core.List.{List, []}
 use mathlib.Core.Path.{_≡_, refl, sym, ap, _∙_}
 use native.Mathlib.Omega.{arith}
 use borrow.Author.Tests.{le-leb, lt-leb, ltb-true, ltb-false}
-use lib.Dec.{ltb, leb}
+use lib.Dec.{ltb}
 use lib.ListN.{length, take, drop}
 use Rattle.unicode.specs.Changed.{changedOf, changedTo}
 use Rattle.unicode.specs.Unicode.{isUtf16, toUtf8}
@@ -15,7 +15,7 @@ use Rattle.unicode.specs.declared.changed.Changed.the-variants.{Written, NotTex
 use Rattle.unicode.specs.declared.utf16.Utf8Length.{Utf8Length}
 use Rattle.unicode.specs.declared.utf16.Utf8Length.the-variants.{Bytes, NotUtf16}
 use Rattle.object.specs.Content.{part}
-use Rattle.reader.specs.Request.{TextSaid, long, refusing, wide, lengthSaid, scratchAfter, partSaid}
+use Rattle.reader.specs.Request.{long, refusing, wide, lengthSaid, scratchAfter, partSaid}
 
 module _ (f scratch : List ℕ) (s n : ℕ) where
   -- the part that is lent

@@ -1,5 +1,4 @@
 -- Document 01's cases of reading, in one table: what the first three calls on each file answer.
-use mathlib.Core.Bool.{true, false}
 use mathlib.Core.List.{List, [], _∷_, _++_, map}
 use mathlib.Core.Option.{some}
 use mathlib.Core.Path.{_≡_, refl}
@@ -10,7 +9,7 @@ use Rattle.number.specs.Be.{be, onto}
 use Rattle.number.specs.Signed.{signedOf}
 use Rattle.number.specs.Width.{widthOf, bytesIn}
 use Rattle.unicode.specs.Unicode.{isUtf16, isEven, paired, unitsOf, isHigh, isLow, toUtf8, utf8, utf8Of, scalars16}
-use Rattle.event.specs.Meaning.{Meaning, array, close, integer, bytes, text, meaningOf, valueOf, givenOf}
+use Rattle.event.specs.Meaning.{array, close, integer, bytes, text, meaningOf, valueOf, givenOf}
 use Rattle.object.specs.Container.{containerAt, containerOf}
 use Rattle.object.specs.Content.{contentAt, extentAt, roomFor, lengthWidth}
 use Rattle.object.specs.Kind.{kindOf}

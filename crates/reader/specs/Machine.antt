@@ -1,6 +1,6 @@
 -- The reader as a machine over what a file answers: which reference of an open container is due, and what an object is.
-use mathlib.Core.Bool.{Bool, true, false, cond}
-use mathlib.Core.List.{List, [], _∷_}
+use mathlib.Core.Bool.{cond}
+use mathlib.Core.List.{List, []}
 use Prim.Native.Nat.{ℕ}
 use lib.Dec.{leb}
 use Rattle.event.specs.declared.Event.{Event}

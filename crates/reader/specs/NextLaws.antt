@@ -1,13 +1,13 @@
 -- What a call answers, case by case: document 01's order.
 use mathlib.Core.Bool.{Bool, true, false, cond, not, _&&_}
-use mathlib.Core.List.{List, []}
-use mathlib.Core.Path.{_≡_, refl, ap, _∙_}
+use mathlib.Core.List.{List}
+use mathlib.Core.Path.{_≡_, ap, _∙_}
 use Prim.Native.Nat.{ℕ, _≤_, _<_}
 use borrow.Author.Tests.{lt-ltb, le-ltb, eq-eqb, ne-eqb}
-use lib.Dec.{ltb, eqb}
+use lib.Dec.{eqb}
 use lib.ListN.{length}
 use Rattle.number.specs.Width.{widthOf}
-use Rattle.reader.specs.Machine.{Step, ended, step, wrongFile}
+use Rattle.reader.specs.Machine.{ended, step, wrongFile}
 use Rattle.reader.specs.Next.{tooLong, begin, goOn, nextOf}
 use Rattle.reader.specs.State.{maxOpen, maxLength}
 use Rattle.reader.specs.Trailer.{trailerOf}

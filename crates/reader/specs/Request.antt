@@ -1,7 +1,7 @@
 -- The text request: the bytes of a data or text record. Document 01: "A data or string record holds its object's offset; its bytes are asked
 -- for afterwards, file and scratch lent. One call answers the length or a refusal and fills scratch; a second's answer, empty where the
 -- first refuses, comes back as a part of one of them: the file for data and 5x, the scratch's first bytes for 6x."
-use mathlib.Core.Bool.{Bool, true, false, cond}
+use mathlib.Core.Bool.{cond}
 use mathlib.Core.List.{List, [], _++_}
 use Prim.Native.Nat.{ℕ}
 use lib.Dec.{ltb, leb}

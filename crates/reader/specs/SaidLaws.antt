@@ -1,7 +1,6 @@
 -- Two answers that say the same are the same.
-use mathlib.Core.Bool.{cond}
 use mathlib.Core.List.{List, [], _∷_}
-use mathlib.Core.Path.{_≡_, refl, sym, ap, ap₂, _∙_}
+use mathlib.Core.Path.{_≡_, refl, sym, ap, _∙_}
 use Prim.Native.Nat.{ℕ}
 use lib.ListN.{getD}
 use Rattle.reader.specs.Machine.{Said, event, ended, refused, Step}
@@ -22,10 +21,10 @@ named marker =
     WrongFile ∷ TooLong ∷ EndOfInput ∷ InvalidMagic ∷ InvalidTrailerObjectOffsetSize ∷ InvalidTrailerObjectReferenceSize ∷ ObjectOffsetTooLarge ∷ ObjectReferenceTooLarge ∷ NullObjectUnimplemented ∷ FillObjectUnimplemented ∷ UnknownObjectType marker ∷ IntegerOutOfRange ∷ InvalidUtf8String ∷ InvalidUtf16String ∷ RecursiveObject ∷ TooDeep ∷ NoRoomForText ∷ WrongFile ∷ []
 
 -- the refusal of a number and values
-refusalFrom : ℕ → List ℕ → Refusal
+pub refusalFrom : ℕ → List ℕ → Refusal
 refusalFrom number values = getD (named (getD values 0 0)) number TooLong
 
-again : (r : Refusal) → refusalFrom (numberOf r) (valuesOf r) ≡ r
+pub again : (r : Refusal) → refusalFrom (numberOf r) (valuesOf r) ≡ r
 unfolding numberOf valuesOf refusalFrom named
 again TooLong = refl
 again EndOfInput = refl

@@ -9,7 +9,6 @@ use object::read::object_at;
 ghost use mathlib.Core.Path.{_≡_};
 ghost use Prim.Native.Nat.{_≤_};
 ghost use lib.ListN.{length};
-ghost use Rattle.object.specs.Found.{numberOf as objectNumber, valuesOf as objectValues};
 ghost use Rattle.reader.specs.Layout.{lookOf};
 ghost use Rattle.reader.specs.Said.{Same, lookSaid};
 ghost use Rattle.reader.specs.State.{maxLength};

@@ -1,6 +1,6 @@
 -- `horner` reads the number: what is summed, with the bytes that are left, is the whole. Below 256 ^ k the sum fits.
-use Prim.Native.Nat.{_*_, _+_, ℕ, suc, _-_, _^_, _≤_, _<_}
-use mathlib.Core.Path.{sym, _∙_, _≡_, refl}
+use Prim.Native.Nat.{_*_, _+_, suc, _-_, _^_, _≤_, _<_}
+use mathlib.Core.Path.{_≡_, refl}
 use native.Mathlib.Numerals.{add-one}
 use native.Mathlib.Nat.{lt-of-lt-of-le, pow-le-pow-right}
 use native.Mathlib.Omega.{arith}

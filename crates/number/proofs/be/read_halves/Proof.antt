@@ -1,13 +1,10 @@
 -- `read_halves` reads the number of 16 bytes in two halves.
-use mathlib.Core.Path.{ap, _≡_, sym}
-use mathlib.Core.List.{List}
-use Prim.Native.Nat.{ℕ, _≤_, _-_}
-use Rattle.number.specs.declared.be.WideNumber.the-variants.{Of}
+use mathlib.Core.Path.{_≡_, sym}
+use Prim.Native.Nat.{_-_}
 use native.Mathlib.Omega.{arith}
-use lib.ListN.{length, take, drop, length-drop}
+use lib.ListN.{length, drop, length-drop}
 use lib.Seq.{length-take-le, take-all}
 use borrow.Author.Tests.{eq-eqb, ne-eqb}
-use Rattle.number.specs.Be.{be}
 use Rattle.number.specs.Read.{halvesOf}
 use borrow.Author.Needs.{needs}
 use Rattle.number.proofs.be.read_halves.Statement.{statement}

@@ -1,12 +1,11 @@
 -- `write_halves` leaves the digits of both halves.
 use mathlib.Core.Path.{_∙_, _≡_, sym}
-use Prim.Native.Nat.{_+_, _≤_, _-_}
+use Prim.Native.Nat.{_+_, _-_}
 use Rattle.number.proofs.Turns.{put-halves}
 use Rattle.number.specs.BeLaws.{bytesOf-low}
 use native.Mathlib.Omega.{arith}
-use lib.ListN.{length, take, drop}
+use lib.ListN.{length}
 use lib.Seq.{length-take-le}
-use Rattle.number.specs.Be.{bytesOf}
 use borrow.Author.Needs.{needs}
 use Rattle.number.proofs.be.write_halves.Statement.{statement}
 use Rattle.number.proofs.be.write_halves.Tie as tie

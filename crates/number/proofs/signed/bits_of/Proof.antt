@@ -1,9 +1,8 @@
 -- `bits_of` is z, or 2^64 - 1 less the magnitude where z is negative.
 use mathlib.Core.Path.{sym, ap}
-use Prim.Native.Nat.{_≤_}
 use native.Mathlib.Omega.{arith}
 use mir.Syntax.{w64}
-use mir.Facts.{toZ-pos, toZ-ofZ}
+use mir.Facts.{toZ-pos}
 use Rattle.number.specs.Signed.{bitsOf}
 use Rattle.number.proofs.Minus.{below, above}
 use Rattle.number.proofs.signed.bits_of.Statement.{statement}

@@ -1,9 +1,8 @@
 -- `due_at` looks the open container up again, and finds what is due in it.
-use mathlib.Core.Path.{_≡_, sym, ap, _∙_}
+use mathlib.Core.Path.{sym, _∙_}
 use borrow.Author.Tests.{lt-ltb, le-ltb}
-use lib.ListN.{length}
 use Rattle.reader.specs.Layout.{dueOf, dueFrom, dueIn}
-use Rattle.reader.proofs.Reach.{StartsBy, starts-in}
+use Rattle.reader.proofs.Reach.{starts-in}
 use borrow.Author.Needs.{needs}
 use Rattle.reader.proofs.layout.due_at.Statement.{statement}
 use Rattle.reader.proofs.layout.due_at.Tie as tie

@@ -1,11 +1,10 @@
 -- `due_from` is the end behind the last reference, else the reference at its place; that place fits.
-use Prim.Native.Nat.{ℕ, _+_, _*_, _^_, _<_, _≤_}
-use mathlib.Core.Path.{_≡_, sym, ap, _∙_}
+use Prim.Native.Nat.{_*_, _^_, _<_, _≤_}
+use mathlib.Core.Path.{sym, _∙_}
 use native.Mathlib.Omega.{arith}
 use borrow.Author.Tests.{eq-eqb, ne-eqb, lt-ltb, le-ltb}
-use Rattle.number.specs.Width.{bytesIn}
 use Rattle.number.specs.WidthLaws.{bytesIn-le}
-use Rattle.reader.specs.Layout.{dueAt, given, numberAt}
+use Rattle.reader.specs.Layout.{dueAt, given}
 use Rattle.reader.proofs.Numbers.{placed}
 use borrow.Author.Needs.{needs}
 use Rattle.reader.proofs.layout.due_from.Statement.{statement}

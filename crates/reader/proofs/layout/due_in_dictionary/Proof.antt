@@ -1,5 +1,5 @@
 -- `due_in_dictionary`: a key's place is half its position, a value's that behind all keys.
-use Prim.Native.Nat.{_%_, _/_, _*_, _<_, _≤_}
+use Prim.Native.Nat.{_%_}
 use native.Mathlib.Omega.{arith}
 use borrow.Author.Tests.{eq-eqb, ne-eqb}
 use Rattle.reader.specs.Layout.{inDictionary, placeIn}

@@ -1,6 +1,5 @@
 -- `entry_at` reads the object's entry of the offset table; its place fits.
 use Prim.Native.Nat.{_*_, _^_, _<_}
-use mathlib.Core.Path.{_≡_, _∙_}
 use native.Mathlib.Omega.{arith}
 use Rattle.number.specs.WidthLaws.{bytesIn-le}
 use Rattle.reader.specs.Layout.{entryAt}

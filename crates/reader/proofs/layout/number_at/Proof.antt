@@ -1,6 +1,6 @@
 -- `number_at` reads a number of 1 to 8 bytes where it lies within the file.
-use mathlib.Core.Path.{ap, _≡_, sym, _∙_}
-use Prim.Native.Nat.{_-_, _+_, _<_, _≤_}
+use mathlib.Core.Path.{ap, _≡_}
+use Prim.Native.Nat.{_+_, _<_, _≤_}
 use Rattle.reader.specs.declared.layout.Entry.the-variants.{Of}
 use native.Mathlib.Omega.{arith}
 use borrow.Author.Tests.{le-leb, lt-leb}

@@ -1,13 +1,13 @@
 -- `look_up` finds an object's entry and what stands there; lengths fit 32 bits.
-use Prim.Native.Nat.{_≤_, _<_}
-use mathlib.Core.Path.{_≡_, sym, ap, _∙_}
+use Prim.Native.Nat.{_≤_}
+use mathlib.Core.Path.{sym, ap, _∙_}
 use native.Mathlib.Omega.{arith}
 use borrow.Author.Tests.{lt-ltb, le-ltb}
 use Rattle.object.specs.Content.{trailerAt}
 use Rattle.object.specs.Found.{foundOf}
 use Rattle.reader.specs.Layout.{lookOf, lookFrom, lookIn}
 use Rattle.reader.specs.Said.{lookSaid, shapeSaid, numberOf, valuesOf}
-use Rattle.reader.proofs.Reach.{CountsBy, counts-in}
+use Rattle.reader.proofs.Reach.{counts-in}
 use borrow.Author.Needs.{needs}
 use Rattle.reader.proofs.lookup.look_up.Statement.{statement}
 use Rattle.reader.proofs.lookup.look_up.Tie as tie

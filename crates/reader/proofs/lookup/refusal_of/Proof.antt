@@ -1,5 +1,4 @@
 -- `refusal_of` keeps number and values.
-use mathlib.Core.Path.{refl}
 use Rattle.object.specs.Found.{numberOf as objectNumber, valuesOf as objectValues}
 use Rattle.reader.specs.Said.{numberOf, valuesOf}
 use borrow.Author.Needs.{needs}

@@ -1,5 +1,4 @@
 -- `asked_for` answers 1 first, then goes by the record's event.
-use mathlib.Core.Path.{sym, ap, _∙_}
 use borrow.Author.Tests.{lt-ltb, le-ltb}
 use Rattle.reader.specs.Request.{askedOf, eventAsked}
 use Rattle.reader.specs.Said.{askedSaid, numberOf, valuesOf}

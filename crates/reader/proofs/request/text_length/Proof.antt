@@ -1,11 +1,10 @@
 -- `text_length` answers the length, and fills the scratch with the text of a 6x alone.
-use Prim.Native.Nat.{_+_, _≤_}
-use mathlib.Core.Path.{_≡_, sym, ap, _∙_}
+use mathlib.Core.Path.{sym, ap, _∙_}
 use native.Mathlib.Omega.{arith}
 use lib.ListN.{length}
-use Rattle.reader.specs.Request.{askedOf, lengthSaid, scratchAfter}
+use Rattle.reader.specs.Request.{lengthSaid, scratchAfter}
 use Rattle.reader.specs.Said.{askedSaid, textSaid, numberOf, valuesOf}
-use Rattle.reader.proofs.Inside.{AskedIn, asked-in}
+use Rattle.reader.proofs.Inside.{asked-in}
 use Rattle.reader.proofs.Wide.{is-written, no-room, is-text, filled}
 use borrow.Author.Needs.{needs}
 use Rattle.reader.proofs.request.text_length.Statement.{statement}

@@ -1,12 +1,12 @@
 -- `text_part` hands out the file's bytes, or the scratch's first ones for a 6x.
-use Prim.Native.Nat.{_+_, _-_, _≤_}
+use Prim.Native.Nat.{_+_, _-_}
 use mathlib.Core.Path.{_≡_, sym, ap, _∙_}
 use native.Mathlib.Omega.{arith}
-use lib.ListN.{length, take, drop}
+use lib.ListN.{length}
 use lib.Seq.{length-take-le}
-use Rattle.reader.specs.Request.{askedOf, partSaid}
+use Rattle.reader.specs.Request.{partSaid}
 use Rattle.reader.specs.Said.{askedSaid}
-use Rattle.reader.proofs.Inside.{AskedIn, asked-in}
+use Rattle.reader.proofs.Inside.{asked-in}
 use Rattle.reader.proofs.Wide.{is-measured, part-none, part-some}
 use borrow.Author.Needs.{needs}
 use Rattle.reader.proofs.request.text_part.Statement.{statement}

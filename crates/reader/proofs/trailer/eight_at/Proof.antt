@@ -1,8 +1,5 @@
 -- `eight_at` reads eight bytes that lie within the file.
 use Rattle.number.specs.Width.{bytesIn}
-use Prim.Native.Nat.{ℕ, _+_, _≤_}
-use mathlib.Core.Path.{_≡_, sym, _∙_}
-use native.Mathlib.Omega.{arith}
 use Rattle.reader.proofs.Numbers.{is-there, not-outside}
 use Rattle.number.specs.declared.width.Width.the-variants.{Eight}
 use borrow.Author.Needs.{needs}

@@ -1,6 +1,5 @@
 -- `read_table` refuses a table that doesn't end before the trailer; what it takes then fits 32 bits.
 use Prim.Native.Nat.{_+_, _-_, _*_, _≤_, _<_}
-use mathlib.Core.Path.{_≡_}
 use native.Mathlib.Omega.{arith}
 use borrow.Author.Tests.{le-leb, lt-leb}
 use lib.ListN.{length}

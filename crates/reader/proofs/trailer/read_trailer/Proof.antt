@@ -1,12 +1,10 @@
 -- `read_trailer` goes by document 01's order: eight bytes, the magic, a whole trailer, its sizes.
-use Prim.Native.Nat.{ℕ, _<_, _≤_}
-use mathlib.Core.Path.{_≡_, sym, _∙_}
+use mathlib.Core.Path.{sym, _∙_}
 use native.Mathlib.Omega.{arith}
 use borrow.Author.Tests.{lt-ltb, le-ltb}
-use lib.ListN.{getD}
 use Rattle.number.specs.BeLaws.{bytes-of}
 use Rattle.reader.specs.Said.{trailerSaid, numberOf, valuesOf}
-use Rattle.reader.specs.Trailer.{trailerOf, sizesOf}
+use Rattle.reader.specs.Trailer.{trailerOf}
 use Rattle.reader.proofs.Magic.{magic-is, magic-not}
 use borrow.Author.Needs.{needs}
 use Rattle.reader.proofs.trailer.read_trailer.Statement.{statement}

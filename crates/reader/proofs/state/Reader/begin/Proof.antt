@@ -1,8 +1,6 @@
 -- `begin` reads the trailer and fetches the root.
 use mathlib.Core.Path.{sym, ap, _∙_}
-use native.Mathlib.Omega.{arith}
 use lib.Dec.{lit<, lit≤}
-use Rattle.reader.specs.Fetching.{Fetching}
 use Rattle.reader.specs.Next.{begin, laidOut}
 use Rattle.reader.specs.Said.{stepSaid, said, trailerSaid}
 use Rattle.reader.specs.State.{innermost}

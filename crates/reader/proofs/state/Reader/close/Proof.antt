@@ -1,5 +1,4 @@
 -- `close` clears the innermost frame, or ends.
-use Prim.Native.Nat.{_-_}
 use mathlib.Core.Path.{_≡_}
 use native.Mathlib.Omega.{arith}
 use borrow.Author.Tests.{eq-eqb, ne-eqb}

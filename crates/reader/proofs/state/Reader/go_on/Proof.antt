@@ -1,6 +1,5 @@
 -- `go_on` takes the step that is due in the innermost container.
-use mathlib.Core.Path.{sym, ap, _∙_}
-use Rattle.reader.specs.Fetching.{Fetching}
+use mathlib.Core.Path.{sym, _∙_}
 use Rattle.reader.specs.Layout.{sourceOf}
 use Rattle.reader.specs.Machine.{stepOf, follow}
 use Rattle.reader.specs.Next.{goOn, withRefs}

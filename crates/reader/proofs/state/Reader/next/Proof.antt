@@ -1,5 +1,5 @@
 -- `next` goes by document 01's order.
-use mathlib.Core.Path.{_≡_, sym, _∙_}
+use mathlib.Core.Path.{sym, _∙_}
 use Rattle.reader.specs.NextLaws.{next-ended, next-begin, next-fresh-long, next-long, next-other, next-many, next-on}
 use Rattle.reader.specs.Said.{stepSaid, said}
 use borrow.Author.Needs.{needs}
