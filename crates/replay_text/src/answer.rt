@@ -1,8 +1,8 @@
 // The answers, a line for each line.
-use crate::hex::decode;
-use crate::hex::encode;
-use crate::line::after;
-use crate::line::next;
+use hexlines::hex::decode;
+use hexlines::hex::encode;
+use hexlines::line::after;
+use hexlines::line::next;
 use libc::STDOUT_FILENO;
 use unicode::changed::Changed;
 use unicode::to_utf16::utf8_to_utf16;

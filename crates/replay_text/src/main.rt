@@ -1,8 +1,6 @@
 // Answers a recorded sample of text: a line of input is `8` or `16`, a space and bytes in hex; the answer is what compare/README.md says of
 // `oracle utf8` and `oracle utf16`.
 mod answer;
-mod hex;
-mod line;
 
 fn main() {
     let mut input = [0u8; 65536];

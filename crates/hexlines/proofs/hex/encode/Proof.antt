@@ -5,8 +5,8 @@ use native.Mathlib.Omega.{arith}
 use borrow.Author.Needs.{needs}
 use Rattle.io.proofs.Counting.{counts}
 use lib.ListN.{length, length-set}
-use Rattle.replay_text.proofs.hex.encode.Statement.{statement}
-use Rattle.replay_text.proofs.hex.encode.Tie as tie
+use Rattle.hexlines.proofs.hex.encode.Statement.{statement}
+use Rattle.hexlines.proofs.hex.encode.Tie as tie
 
 abbrev Inv-loop : tie.InvT-loop
 Inv-loop s out₀ count n₀ out n = length out ≡ length out₀

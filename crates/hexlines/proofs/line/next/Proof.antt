@@ -3,8 +3,8 @@ use Prim.Native.Nat.{_-_, _≤_}
 use native.Mathlib.Omega.{arith}
 use borrow.Author.Needs.{needs}
 use lib.ListN.{length}
-use Rattle.replay_text.proofs.line.next.Statement.{statement}
-use Rattle.replay_text.proofs.line.next.Tie as tie
+use Rattle.hexlines.proofs.line.next.Statement.{statement}
+use Rattle.hexlines.proofs.line.next.Tie as tie
 
 abbrev Inv-loop : tie.InvT-loop
 Inv-loop s from b i₀ i = from ≤ i

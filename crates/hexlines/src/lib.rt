@@ -1,0 +1,3 @@
+// Lines of hex digits: what the programs that run recorded answers read and write.
+pub mod hex;
+pub mod line;
