@@ -1,0 +1,200 @@
+-- Each contract of a public function leaves one answer, and one content of all lent memory.
+use mathlib.Core.List.{List}
+use mathlib.Core.Path.{_≡_, refl, sym, _∙_}
+use Prim.Native.Nat.{ℕ}
+use borrow.Fn.Kinds.{PK, RK, Out, Dens, endedOf, resT}
+use contract.Lifetimes.{Lfts}
+use denote.Ref.{now}
+use denote.Triple.Clauses.{AtExit}
+use Rattle.object.specs.FoundLaws.{foundOf-one}
+use Rattle.reader.specs.SaidLaws.{stepSaid-one, textSaid-one}
+use Rattle.tape.specs.AppendLaws.{said-one}
+use Rattle.claims.proofs.itself.Kinds as itself-kinds
+use Rattle.claims.proofs.itself.Reads as itself-reads
+use Rattle.event.proofs.real.real_of.Kinds as real-of-kinds
+use Rattle.event.proofs.real.real_of.Reads as real-of-reads
+use Rattle.event.proofs.real.short_real_of.Kinds as short-real-of-kinds
+use Rattle.event.proofs.real.short_real_of.Reads as short-real-of-reads
+use Rattle.event.proofs.real.float_bits.Kinds as float-bits-kinds
+use Rattle.event.proofs.real.float_bits.Reads as float-bits-reads
+use Rattle.number.proofs.be.read_be.Kinds as read-be-kinds
+use Rattle.number.proofs.be.read_be.Reads as read-be-reads
+use Rattle.number.proofs.be.read_halves.Kinds as read-halves-kinds
+use Rattle.number.proofs.be.read_halves.Reads as read-halves-reads
+use Rattle.number.proofs.be.write_be.Kinds as write-be-kinds
+use Rattle.number.proofs.be.write_be.Reads as write-be-reads
+use Rattle.number.proofs.be.write_halves.Kinds as write-halves-kinds
+use Rattle.number.proofs.be.write_halves.Reads as write-halves-reads
+use Rattle.number.proofs.signed.signed_of.Kinds as signed-of-kinds
+use Rattle.number.proofs.signed.signed_of.Reads as signed-of-reads
+use Rattle.number.proofs.signed.bits_of.Kinds as bits-of-kinds
+use Rattle.number.proofs.signed.bits_of.Reads as bits-of-reads
+use Rattle.number.proofs.signed.magnitude.Kinds as magnitude-kinds
+use Rattle.number.proofs.signed.magnitude.Reads as magnitude-reads
+use Rattle.number.proofs.signed.negative_of.Kinds as negative-of-kinds
+use Rattle.number.proofs.signed.negative_of.Reads as negative-of-reads
+use Rattle.number.proofs.size.size_for.Kinds as size-for-kinds
+use Rattle.number.proofs.size.size_for.Reads as size-for-reads
+use Rattle.number.proofs.width.width_of.Kinds as width-of-kinds
+use Rattle.number.proofs.width.width_of.Reads as width-of-reads
+use Rattle.number.proofs.width.bytes_in.Kinds as bytes-in-kinds
+use Rattle.number.proofs.width.bytes_in.Reads as bytes-in-reads
+use Rattle.unicode.proofs.utf8.is_utf8.Kinds as is-utf8-kinds
+use Rattle.unicode.proofs.utf8.is_utf8.Reads as is-utf8-reads
+use Rattle.unicode.proofs.utf8.is_ascii.Kinds as is-ascii-kinds
+use Rattle.unicode.proofs.utf8.is_ascii.Reads as is-ascii-reads
+use Rattle.unicode.proofs.utf16.is_utf16.Kinds as is-utf16-kinds
+use Rattle.unicode.proofs.utf16.is_utf16.Reads as is-utf16-reads
+use Rattle.unicode.proofs.utf16.utf8_length.Kinds as utf8-length-kinds
+use Rattle.unicode.proofs.utf16.utf8_length.Reads as utf8-length-reads
+use Rattle.unicode.proofs.utf16.utf16_to_utf8.Kinds as utf16-to-utf8-kinds
+use Rattle.unicode.proofs.utf16.utf16_to_utf8.Reads as utf16-to-utf8-reads
+use Rattle.unicode.proofs.to_utf16.utf16_units.Kinds as utf16-units-kinds
+use Rattle.unicode.proofs.to_utf16.utf16_units.Reads as utf16-units-reads
+use Rattle.unicode.proofs.to_utf16.utf8_to_utf16.Kinds as utf8-to-utf16-kinds
+use Rattle.unicode.proofs.to_utf16.utf8_to_utf16.Reads as utf8-to-utf16-reads
+use Rattle.object.proofs.kind.kind_of.Kinds as kind-of-kinds
+use Rattle.object.proofs.kind.kind_of.Reads as kind-of-reads
+use Rattle.object.proofs.container.container_at.Kinds as container-at-kinds
+use Rattle.object.proofs.container.container_at.Reads as container-at-reads
+use Rattle.object.proofs.read.object_at.Kinds as object-at-kinds
+use Rattle.object.proofs.read.object_at.Reads as object-at-reads
+use Rattle.reader.proofs.layout.number_at.Kinds as number-at-kinds
+use Rattle.reader.proofs.layout.number_at.Reads as number-at-reads
+use Rattle.reader.proofs.state.Reader.max_open.Kinds as max-open-kinds
+use Rattle.reader.proofs.state.Reader.max_open.Reads as max-open-reads
+use Rattle.reader.proofs.state.Reader.max_length.Kinds as max-length-kinds
+use Rattle.reader.proofs.state.Reader.max_length.Reads as max-length-reads
+use Rattle.reader.proofs.state.Reader.fresh_reader.Kinds as fresh-reader-kinds
+use Rattle.reader.proofs.state.Reader.fresh_reader.Reads as fresh-reader-reads
+use Rattle.reader.proofs.state.Reader.ended_reader.Kinds as ended-reader-kinds
+use Rattle.reader.proofs.state.Reader.ended_reader.Reads as ended-reader-reads
+use Rattle.reader.proofs.state.Reader.next.Kinds as next-kinds
+use Rattle.reader.proofs.state.Reader.next.Reads as next-reads
+use Rattle.reader.proofs.request.text_length.Kinds as text-length-kinds
+use Rattle.reader.proofs.request.text_length.Reads as text-length-reads
+use Rattle.reader.proofs.request.text_part.Kinds as text-part-kinds
+use Rattle.reader.proofs.request.text_part.Reads as text-part-reads
+use Rattle.tape.proofs.step.step.Kinds as step-kinds
+use Rattle.tape.proofs.step.step.Reads as step-reads
+use Rattle.tape.proofs.append.append.Kinds as append-kinds
+use Rattle.tape.proofs.append.append.Reads as append-reads
+
+-- two answers to the same arguments that meet a contract are the same, and so is what is looked at in lent memory as the function returns
+abbrev pub One : (n : ℕ) (ps : List (PK n)) (r : RK n) → Out n ps r → (X : Type 0) → ((κs : Lfts n) → AtExit (endedOf n ps r) κs → X) → Type 0
+One n ps r post X look =
+    (κs : Lfts n) (a : Dens κs ps) (x y : resT r κs .Denot) (e f : AtExit (endedOf n ps r) κs) →
+    post κs a x e → post κs a y f → (x ≡ y) × (look κs e ≡ look κs f)
+
+-- the same of what is seen of an answer that is a reference
+abbrev pub OneView : (n : ℕ) (ps : List (PK n)) (r : RK n) → Out n ps r → (Y : Type 0) → ((κs : Lfts n) → resT r κs .Denot → Y) → Type 0
+OneView n ps r post Y view =
+    (κs : Lfts n) (a : Dens κs ps) (x y : resT r κs .Denot) (e f : AtExit (endedOf n ps r) κs) →
+    post κs a x e → post κs a y f → view κs x ≡ view κs y
+
+real-of-one : One 0 real-of-kinds.ps real-of-kinds.r real-of-reads.Post (Unit {0}) (λ κs e. tt)
+real-of-one κs a x y e f p q = (p ∙ sym q, refl)
+
+short-real-of-one : One 0 short-real-of-kinds.ps short-real-of-kinds.r short-real-of-reads.Post (Unit {0}) (λ κs e. tt)
+short-real-of-one κs a x y e f p q = (p ∙ sym q, refl)
+
+float-bits-one : One 0 float-bits-kinds.ps float-bits-kinds.r float-bits-reads.Post (Unit {0}) (λ κs e. tt)
+float-bits-one κs a x y e f p q = (p ∙ sym q, refl)
+
+read-be-one : One 1 read-be-kinds.ps read-be-kinds.r read-be-reads.Post (Unit {0}) (λ κs e. tt)
+read-be-one κs a x y e f p q = (p ∙ sym q, refl)
+
+read-halves-one : One 1 read-halves-kinds.ps read-halves-kinds.r read-halves-reads.Post (Unit {0}) (λ κs e. tt)
+read-halves-one κs a x y e f p q = (p ∙ sym q, refl)
+
+write-be-one : One 1 write-be-kinds.ps write-be-kinds.r write-be-reads.Post (List ℕ) (λ κs e. now (e .0))
+write-be-one κs a x y e f p q = (refl, p ∙ sym q)
+
+write-halves-one : One 1 write-halves-kinds.ps write-halves-kinds.r write-halves-reads.Post (List ℕ) (λ κs e. now (e .0))
+write-halves-one κs a x y e f p q = (refl, p ∙ sym q)
+
+signed-of-one : One 0 signed-of-kinds.ps signed-of-kinds.r signed-of-reads.Post (Unit {0}) (λ κs e. tt)
+signed-of-one κs a x y e f p q = (p ∙ sym q, refl)
+
+bits-of-one : One 0 bits-of-kinds.ps bits-of-kinds.r bits-of-reads.Post (Unit {0}) (λ κs e. tt)
+bits-of-one κs a x y e f p q = (p ∙ sym q, refl)
+
+magnitude-one : One 0 magnitude-kinds.ps magnitude-kinds.r magnitude-reads.Post (Unit {0}) (λ κs e. tt)
+magnitude-one κs a x y e f p q = (p ∙ sym q, refl)
+
+negative-of-one : One 0 negative-of-kinds.ps negative-of-kinds.r negative-of-reads.Post (Unit {0}) (λ κs e. tt)
+negative-of-one κs a x y e f p q = (p ∙ sym q, refl)
+
+size-for-one : One 0 size-for-kinds.ps size-for-kinds.r size-for-reads.Post (Unit {0}) (λ κs e. tt)
+size-for-one κs a x y e f p q = (p ∙ sym q, refl)
+
+width-of-one : One 0 width-of-kinds.ps width-of-kinds.r width-of-reads.Post (Unit {0}) (λ κs e. tt)
+width-of-one κs a x y e f p q = (p ∙ sym q, refl)
+
+bytes-in-one : One 0 bytes-in-kinds.ps bytes-in-kinds.r bytes-in-reads.Post (Unit {0}) (λ κs e. tt)
+bytes-in-one κs a x y e f p q = (p ∙ sym q, refl)
+
+is-utf8-one : One 1 is-utf8-kinds.ps is-utf8-kinds.r is-utf8-reads.Post (Unit {0}) (λ κs e. tt)
+is-utf8-one κs a x y e f p q = (p ∙ sym q, refl)
+
+is-ascii-one : One 1 is-ascii-kinds.ps is-ascii-kinds.r is-ascii-reads.Post (Unit {0}) (λ κs e. tt)
+is-ascii-one κs a x y e f p q = (p ∙ sym q, refl)
+
+is-utf16-one : One 1 is-utf16-kinds.ps is-utf16-kinds.r is-utf16-reads.Post (Unit {0}) (λ κs e. tt)
+is-utf16-one κs a x y e f p q = (p ∙ sym q, refl)
+
+utf8-length-one : One 1 utf8-length-kinds.ps utf8-length-kinds.r utf8-length-reads.Post (Unit {0}) (λ κs e. tt)
+utf8-length-one κs a x y e f p q = (p ∙ sym q, refl)
+
+utf16-to-utf8-one : One 2 utf16-to-utf8-kinds.ps utf16-to-utf8-kinds.r utf16-to-utf8-reads.Post (List ℕ) (λ κs e. now (e .1 .0))
+utf16-to-utf8-one κs a x y e f p q = (p .0 ∙ sym (q .0), p .1 ∙ sym (q .1))
+
+utf16-units-one : One 1 utf16-units-kinds.ps utf16-units-kinds.r utf16-units-reads.Post (Unit {0}) (λ κs e. tt)
+utf16-units-one κs a x y e f p q = (p ∙ sym q, refl)
+
+utf8-to-utf16-one : One 2 utf8-to-utf16-kinds.ps utf8-to-utf16-kinds.r utf8-to-utf16-reads.Post (List ℕ) (λ κs e. now (e .1 .0))
+utf8-to-utf16-one κs a x y e f p q = (p .0 ∙ sym (q .0), p .1 ∙ sym (q .1))
+
+kind-of-one : One 0 kind-of-kinds.ps kind-of-kinds.r kind-of-reads.Post (Unit {0}) (λ κs e. tt)
+kind-of-one κs a x y e f p q = (p ∙ sym q, refl)
+
+container-at-one : One 1 container-at-kinds.ps container-at-kinds.r container-at-reads.Post (Unit {0}) (λ κs e. tt)
+container-at-one κs a x y e f p q = (p ∙ sym q, refl)
+
+object-at-one : One 1 object-at-kinds.ps object-at-kinds.r object-at-reads.Post (Unit {0}) (λ κs e. tt)
+object-at-one κs a x y e f p q = (foundOf-one x y (p ∙ sym q), refl)
+
+number-at-one : One 1 number-at-kinds.ps number-at-kinds.r number-at-reads.Post (Unit {0}) (λ κs e. tt)
+number-at-one κs a x y e f p q = (p ∙ sym q, refl)
+
+max-open-one : One 0 max-open-kinds.ps max-open-kinds.r max-open-reads.Post (Unit {0}) (λ κs e. tt)
+max-open-one κs a x y e f p q = (p ∙ sym q, refl)
+
+max-length-one : One 0 max-length-kinds.ps max-length-kinds.r max-length-reads.Post (Unit {0}) (λ κs e. tt)
+max-length-one κs a x y e f p q = (p ∙ sym q, refl)
+
+fresh-reader-one : One 0 fresh-reader-kinds.ps fresh-reader-kinds.r fresh-reader-reads.Post (Unit {0}) (λ κs e. tt)
+fresh-reader-one κs a x y e f p q = (p ∙ sym q, refl)
+
+ended-reader-one : One 0 ended-reader-kinds.ps ended-reader-kinds.r ended-reader-reads.Post (Unit {0}) (λ κs e. tt)
+ended-reader-one κs a x y e f p q = (p ∙ sym q, refl)
+
+next-one : One 1 next-kinds.ps next-kinds.r next-reads.Post (Unit {0}) (λ κs e. tt)
+next-one κs a x y e f p q = (stepSaid-one x y (p ∙ sym q), refl)
+
+text-length-one : One 2 text-length-kinds.ps text-length-kinds.r text-length-reads.Post (List ℕ) (λ κs e. now (e .1 .0))
+text-length-one κs a x y e f p q = (textSaid-one x y (p .0 ∙ sym (q .0)), p .1 ∙ sym (q .1))
+
+-- what is handed out is a part of the file or of the scratch: its bytes are fixed
+text-part-one : OneView 1 text-part-kinds.ps text-part-kinds.r text-part-reads.Post (List ℕ) (λ κs x. now x)
+text-part-one κs a x y e f p q = p ∙ sym q
+
+step-one : One 1 step-kinds.ps step-kinds.r step-reads.Post (Unit {0}) (λ κs e. tt)
+step-one κs a x y e f p q = (p ∙ sym q, refl)
+
+append-one : One 2 append-kinds.ps append-kinds.r append-reads.Post (List ℕ) (λ κs e. now (e .0))
+append-one κs a x y e f p q = (said-one x y (p .0 ∙ sym (q .0)), p .1 ∙ sym (q .1))
+
+-- and the smallest of them, which a must-fail edit weakens
+itself-one : One 0 itself-kinds.ps itself-kinds.r itself-reads.Post (Unit {0}) (λ κs e. tt)
+itself-one κs a x y e f p q = (p ∙ sym q, refl)

@@ -1,0 +1,184 @@
+-- The state after each answer, whatever file is lent to whatever state: document 01's table of refusal numbers, "State after".
+use mathlib.Core.Bool.{Bool, true, false, cond, not, _&&_}
+use mathlib.Core.List.{List, []}
+use mathlib.Core.Logic.{inl, inr}
+use mathlib.Core.Path.{_≡_, refl, ap}
+use Prim.Native.Nat.{ℕ, suc, _+_, _*_, _≤_, _<_}
+use native.Mathlib.Numerals.{add-one}
+use native.Mathlib.Omega.{arith}
+use borrow.Author.Tests.{leb-true, eqb-true, ltb-true, ltb-false, lt-ltb, le-ltb, ne-eqb}
+use lib.Dec.{ltb, leb, eqb}
+use lib.ListN.{length, getD}
+use Rattle.number.specs.Width.{bytesIn, widthOf}
+use Rattle.number.specs.declared.width.Size.{Size}
+use Rattle.number.specs.declared.width.Size.the-variants.{Allowed, NotAllowed}
+use Rattle.number.specs.declared.width.Width.{Width}
+use Rattle.object.specs.Content.{trailerAt}
+use Rattle.reader.specs.Layout.{lookOf, sourceOf}
+use Rattle.reader.specs.Machine.{Said, event, ended, refused, Step, step, Looked, barred, missing, faulty, scalar, container, Shape, enter, arrive, follow, stepOf}
+use Rattle.reader.specs.Next.{laidOut, begin, withRefs, goOn, nextOf}
+use Rattle.reader.specs.State.{maxOpen, maxLength, endedReader, openOf, innermost, memberOf}
+use Rattle.reader.specs.Trailer.{Trailer, keeps, lays, magic, begins, eightAt, tableOf, refSizeOf, sizesOf, trailerOf}
+use Rattle.reader.specs.declared.layout.Due.{Due}
+use Rattle.reader.specs.declared.layout.Due.the-variants.{Wrong, Close, Member}
+use Rattle.reader.specs.declared.layout.Layout.{Layout}
+use Rattle.reader.specs.declared.state.Reader.{Reader}
+use Rattle.claims.specs.Calls.{runs, answerOf}
+use Rattle.claims.specs.Ended.{Done, done-ended, done-answers}
+use Rattle.claims.specs.Found.{Faults}
+use Rattle.claims.specs.Look.{Looks, looks, Laid, never-missing}
+
+-- which refusals leave the state unchanged: 1, 3, 4 and 17; 2 "in the trailer", that is of a fresh reader on a file with no room for
+-- one; 5 "if the byte is 0". All others end
+unfoldable pub unchanged : List ℕ → Reader → ℕ → Bool
+unchanged file r number =
+    cond (eqb number 1) true
+    (cond (eqb number 2) (r .fresh && ltb (length file) 32)
+    (cond (eqb number 3) true
+    (cond (eqb number 4) true
+    (cond (eqb number 5) (eqb (getD file (trailerAt file + 7) 0) 0)
+    (eqb number 17)))))
+
+-- ended comes of a state that has ended, and leaves it
+abbrev pub After : List ℕ → Reader → Reader → Said → Type 0
+After file r s (event e offset) = Unit {0}
+After file r s ended = (s ≡ r) × Done r
+After file r s (refused number values place) = s ≡ cond (unchanged file r number) r endedReader
+
+module _ (file : List ℕ) (r : Reader) where
+  pub six-ends : (number : ℕ) → 6 ≤ number → number ≤ 15 → unchanged file r number ≡ false
+  unfolding unchanged
+  six-ends number h k =
+      rw (ne-eqb number 1 (λ e. omega arith), ne-eqb number 2 (λ e. omega arith), ne-eqb number 3 (λ e. omega arith), ne-eqb number 4 (λ e. omega arith), ne-eqb number 5 (λ e. omega arith), ne-eqb number 17 (λ e. omega arith))
+
+  abbrev Leaves : Step → Type 0
+  Leaves x = After file r (x .state) (x .answer)
+
+  either : (b : Bool) (x y : Step) → (b ≡ true → Leaves x) → (b ≡ false → Leaves y) → Leaves (cond b x y)
+  either true x y p q = p refl
+  either false x y p q = q refl
+
+  wrong-leaves : Leaves (step r (refused 17 [] 0))
+  unfolding unchanged
+  wrong-leaves = refl
+
+  -- not in the trailer: the reader isn't fresh, or there is room for a trailer
+  module _ (inside : (r .fresh && ltb (length file) 32) ≡ false) where
+    faults-end : (number : ℕ) → Faults number → unchanged file r number ≡ false
+    unfolding unchanged
+    faults-end number (inl e) = rw e inside
+    faults-end number (inr h) = six-ends number (h .0) (omega arith)
+
+    enter-leaves : (s : Reader) (n : ℕ) (shape : Shape) (k offset : ℕ) → Leaves (enter s n shape k offset)
+    unfolding enter unchanged
+    enter-leaves s n shape k offset = either (memberOf (openOf s) n) _ _ (λ e. refl) (λ e. either (leb maxOpen (s .held)) _ _ (λ e. refl) (λ e. tt))
+
+    arrive-leaves : (s : Reader) (l : Layout) (n : ℕ) (x : Looked) → Looks file l n x → (x ≡ missing → s ≡ r) → Leaves (arrive s n x)
+    unfolding arrive unchanged
+    arrive-leaves s l n (barred number values) k m = rw (faults-end number k)
+    arrive-leaves s l n missing k m = m refl
+    arrive-leaves s l n (faulty number values place) k m = rw (faults-end number k)
+    arrive-leaves s l n (scalar e offset) k m = tt
+    arrive-leaves s l n (container shape k offset) st m = enter-leaves s n shape k offset
+
+    follow-leaves : (l : Layout) (d : Due) → Leaves (follow (sourceOf file l) r d)
+    unfolding follow sourceOf
+    follow-leaves l Wrong = wrong-leaves
+    follow-leaves l (Close offset) = tt
+    follow-leaves l (Member n) = arrive-leaves r l n (lookOf file l n) (looks file l n) (λ e. refl)
+
+    refs-leaves : (offsets : Width) (s : Size) → Leaves (withRefs file r offsets s)
+    unfolding withRefs stepOf
+    refs-leaves offsets (Allowed refs) = follow-leaves _ (sourceOf file _ .due (innermost r))
+    refs-leaves offsets NotAllowed = wrong-leaves
+
+    go-leaves : (s t : Size) → Leaves (goOn file r s t)
+    unfolding goOn
+    go-leaves (Allowed offsets) t = refs-leaves offsets t
+    go-leaves NotAllowed t = wrong-leaves
+
+  -- the trailer
+  module _ (new : r .fresh ≡ true) where
+    picks : (b : Bool) (x y : Trailer) → (b ≡ true → Leaves (begin file r x)) → (b ≡ false → Leaves (begin file r y)) → Leaves (begin file r (cond b x y))
+    picks true x y p q = p refl
+    picks false x y p q = q refl
+
+    short-leaves : length file < 32 → Leaves (begin file r (keeps 2 [] 0))
+    unfolding begin unchanged
+    short-leaves h = rw (new, lt-ltb (length file) 32 h)
+
+    module _ (long : 32 ≤ length file) where
+      never-short : (b : Bool) → (b && ltb (length file) 32) ≡ false
+      never-short true = le-ltb _ _ long
+      never-short false = refl
+
+      laid-leaves : (l : Layout) (root : ℕ) → Laid file l → Leaves (begin file r (lays l root))
+      unfolding begin
+      laid-leaves l root laid =
+          arrive-leaves (never-short (r .fresh)) (laidOut file l) l root (lookOf file l root) (looks file l root) (λ e. absurd (never-missing file l laid root e))
+
+      table-leaves : (offsets refs : Width) → Leaves (begin file r (tableOf file offsets refs))
+      unfolding tableOf begin unchanged
+      table-leaves offsets refs = picks (leb (eightAt file 24 + eightAt file 8 * bytesIn offsets) (trailerAt file)) _ _ (λ e. laid-leaves _ (eightAt file 16) (leb-true _ _ e)) (λ e. refl)
+
+      ref-leaves : (offsets : Width) (s : Size) → Leaves (begin file r (refSizeOf file offsets s))
+      unfolding refSizeOf begin unchanged
+      ref-leaves offsets (Allowed refs) = table-leaves offsets refs
+      ref-leaves offsets NotAllowed = picks (eqb (getD file (trailerAt file + 7) 0) 0) _ _ (λ e. rw e) (λ e. rw e)
+
+      sizes-leaves : (s : Size) → Leaves (begin file r (sizesOf file s))
+      unfolding sizesOf begin unchanged
+      sizes-leaves (Allowed offsets) = ref-leaves offsets (widthOf (getD file (trailerAt file + 7) 0))
+      sizes-leaves NotAllowed = refl
+
+    begin-leaves : Leaves (begin file r (trailerOf file))
+    unfolding trailerOf begin unchanged
+    begin-leaves =
+        picks (ltb (length file) 8) _ _
+        (λ e. short-leaves (omega (arith, ltb-true (length file) 8 e)))
+        (λ e. picks (begins magic file) _ _
+        (λ e. picks (ltb (length file) 32) _ _
+        (λ e. short-leaves (ltb-true _ _ e))
+        (λ e. sizes-leaves (ltb-false _ _ e) (widthOf (getD file (trailerAt file + 6) 0))))
+        (λ e. refl))
+
+  both : (a b : Bool) → (not a && b) ≡ true → (a ≡ false) × (b ≡ true)
+  both true b e = let z : _≡_ {A = ℕ} 0 1 = cc in absurd (omega arith)
+  both false b e = (refl, e)
+
+  pub leaves : Leaves (nextOf file r)
+  unfolding nextOf unchanged
+  leaves =
+      either (not (r .fresh) && eqb (r .held) 0) _ _
+      (λ e. let t = both (r .fresh) (eqb (r .held) 0) e in (refl, record { old = t .0; none = eqb-true _ _ (t .1) }))
+      (λ e. either (ltb maxLength (length file)) _ _ (λ e. refl)
+      (λ e. either (r .fresh) _ _ begin-leaves
+      (λ f. either (not (eqb (r .length) (length file))) _ _ (λ e. wrong-leaves)
+      (λ e. either (ltb maxOpen (r .held)) _ _ (λ e. wrong-leaves)
+      (λ e. go-leaves (ap (λ (b : Bool). b && ltb (length file) 32) f) (widthOf (r .offsets)) (widthOf (r .refs)))))))
+
+  -- the state after a refusal
+  pub state-after : (number : ℕ) (values : List ℕ) (place : ℕ) → nextOf file r .answer ≡ refused number values place → nextOf file r .state ≡ cond (unchanged file r number) r endedReader
+  state-after number values place a = rw a at leaves
+
+  -- 6 to 15 end, whatever the file and the state
+  pub refusal-ends : (number : ℕ) (values : List ℕ) (place : ℕ) → nextOf file r .answer ≡ refused number values place → 6 ≤ number → number ≤ 15 → nextOf file r .state ≡ endedReader
+  refusal-ends number values place a h k = rw (six-ends number h k) at (state-after number values place a)
+
+  -- the answer ended comes of an ended state, which it leaves
+  pub after-ended : nextOf file r .answer ≡ ended → Done (nextOf file r .state)
+  after-ended a =
+      let t : (nextOf file r .state ≡ r) × Done r = rw a at leaves in
+      rw (t .0) (t .1)
+
+-- over calls of a fresh reader on one file: after the answer ended every answer is ended
+pub ended-again : (file : List ℕ) (n m : ℕ) → answerOf file n ≡ ended → answerOf file (n + 1 + m) ≡ ended
+unfolding answerOf runs
+ended-again file n m a = rw add-one (done-answers file (suc n) (after-ended file (runs file n) a) m)
+
+-- and so it is after a refusal of 6 to 15
+pub ended-after-refusal : (file : List ℕ) (n m number : ℕ) (values : List ℕ) (place : ℕ) → answerOf file n ≡ refused number values place → 6 ≤ number → number ≤ 15
+    → answerOf file (n + 1 + m) ≡ ended
+unfolding answerOf runs
+ended-after-refusal file n m number values place a h k =
+    rw add-one (done-answers file (suc n) (rw (refusal-ends file (runs file n) number values place a h k) done-ended) m)

@@ -1,0 +1,101 @@
+-- What a call may answer in a state that a fresh reader comes to by calls on one file, and what state it leaves: all that the claims
+-- about answers need, shown once.
+use mathlib.Core.List.{List}
+use mathlib.Core.Logic.{_⊎_, inl, inr}
+use mathlib.Core.Path.{_≡_, refl}
+use Prim.Native.Nat.{ℕ, suc, _≤_, _<_}
+use native.Mathlib.Omega.{arith}
+use lib.Dec.{lit≤}
+use lib.ListN.{length}
+use Rattle.reader.specs.Layout.{dueOf}
+use Rattle.reader.specs.Machine.{Said, event, ended, refused, Shape, array, dictionary, startOf}
+use Rattle.reader.specs.Next.{nextOf}
+use Rattle.reader.specs.NextLaws.{next-ended}
+use Rattle.reader.specs.State.{maxOpen, maxLength, freshReader, endedReader, openOf, innermost}
+use Rattle.reader.specs.Trailer.{lays, eightAt, trailerOf}
+use Rattle.reader.specs.declared.layout.Due.the-variants.{Member}
+use Rattle.reader.specs.declared.layout.Layout.{Layout}
+use Rattle.reader.specs.declared.state.Reader.{Reader}
+use Rattle.claims.specs.Call as call
+use Rattle.claims.specs.Call.{Call, First, first}
+use Rattle.claims.specs.Calls.{runs, answerOf}
+use Rattle.claims.specs.Depth.{open-fewer, count-is}
+use Rattle.claims.specs.Look.{Asks}
+use Rattle.claims.specs.Members.{At, member-at}
+use Rattle.claims.specs.Open.{Open, Reached, fresh, over, within}
+use Rattle.claims.specs.Reached.{reached, not-open}
+
+-- the next reference of the innermost open container names an object that is open
+pub record Recurs (file : List ℕ) (r : Reader) : Type 0 where
+  pub layout : Layout
+  pub root : ℕ
+  pub says : trailerOf file ≡ lays layout root
+  pub object : ℕ
+  pub due : dueOf file layout (innermost r) ≡ Member object
+  pub at : At (r .frames) (r .held) object
+
+-- as many containers are open as may be, and the file has more objects
+pub record Full (file : List ℕ) (r : Reader) : Type 0 where
+  pub held : maxOpen ≤ r .held
+  pub more : r .held < eightAt file 8
+
+-- a refusal has a number up to 15; 14 and 15 have their reason; and it ends the reader, unless that was fresh and still is
+pub record Refusing (file : List ℕ) (r s : Reader) (number : ℕ) : Type 0 where
+  pub known : number ≤ 15
+  pub recursive : number ≡ 14 → Recurs file r
+  pub deep : number ≡ 15 → Full file r
+  pub settled : (s ≡ endedReader) ⊎ ((r ≡ freshReader) × (s ≡ freshReader))
+
+-- an event comes of a file that isn't too long, and the bytes of data or text are given
+abbrev pub Fair : List ℕ → Reader → Reader → Said → Type 0
+Fair file r s (event e offset) = (length file ≤ maxLength) × Asks file e offset
+Fair file r s ended = Unit {0}
+Fair file r s (refused number values place) = Refusing file r s number
+
+-- a refusal for another reason than 14 and 15
+other : {file : List ℕ} {r s : Reader} (number : ℕ) → number < 14 → (s ≡ endedReader) ⊎ ((r ≡ freshReader) × (s ≡ freshReader)) → Refusing file r s number
+other number h e = record { known = omega arith; recursive = λ q. absurd (omega arith); deep = λ q. absurd (omega arith); settled = e }
+
+start-asks : (file : List ℕ) (s : Shape) (k offset : ℕ) → Asks file (startOf s k) offset
+unfolding startOf
+start-asks file array k offset = tt
+start-asks file dictionary k offset = tt
+
+module _ (file : List ℕ) where
+  fair-open : (r : Reader) (o : Open file r) → Call file (o .layout) r → Fair file r (nextOf file r .state) (nextOf file r .answer)
+  unfolding openOf
+  fair-open r o (call.closing offset e) = rw e (o .short, tt)
+  fair-open r o (call.refusing number values place h e) = rw e (other number h (inl refl))
+  fair-open r o (call.passing n d v offset a e) = rw e (o .short, a)
+  fair-open r o (call.again n d m offset e) =
+      rw e
+      (record {
+        known = lit≤ tt;
+        recursive = λ q. record { layout = o .layout; root = o .root; says = o .says; object = n; due = d; at = member-at (r .frames) (r .held) n m };
+        deep = λ q. absurd (omega arith);
+        settled = inl refl;
+      })
+  fair-open r o (call.deep n d m h k offset e) =
+      rw e
+      (record {
+        known = lit≤ tt;
+        recursive = λ q. absurd (omega arith);
+        deep = λ q. record { held = k; more = omega (arith, open-fewer file r o n h (not-open file r o n d m), count-is file r o) };
+        settled = inl refl;
+      })
+  fair-open r o (call.entering n d m few s k offset look e) = rw e (o .short, start-asks file s k offset)
+
+  fair-first : First file → Fair file freshReader (nextOf file freshReader .state) (nextOf file freshReader .answer)
+  fair-first (call.keeping number values place h e) = rw e (other number (omega arith) (inr (refl, refl)))
+  fair-first (call.refusing number values place h e) = rw e (other number h (inl refl))
+  fair-first (call.passing short v offset a e) = rw e (short, a)
+  fair-first (call.entering short l root says s k offset look e) = rw e (short, start-asks file s k offset)
+
+  fair-reached : (r : Reader) → Reached file r → Fair file r (nextOf file r .state) (nextOf file r .answer)
+  fair-reached r (fresh e) = rw e (fair-first (first file))
+  fair-reached r (over e) = rw (e, next-ended file endedReader refl refl) tt
+  fair-reached r (within o) = fair-open r o (call.call file r o)
+
+  pub fair : (n : ℕ) → Fair file (runs file n) (runs file (suc n)) (answerOf file n)
+  unfolding answerOf runs
+  fair n = fair-reached (runs file n) (reached file n)

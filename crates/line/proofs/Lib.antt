@@ -1,0 +1,4 @@
+pub mod Counting
+pub mod Sign
+pub mod Turns
+pub mod Written

@@ -1,0 +1,172 @@
+// Putting a line from a place on: whole, where it fits, else nothing changes.
+use crate::piece::Numeral;
+use crate::piece::numeral_length;
+use crate::piece::write_bytes;
+use crate::piece::write_numeral;
+use crate::piece::write_tail;
+use event::Event;
+use event::Integer;
+use event::Length;
+use event::real::float_bits;
+use number::be::write_be;
+use number::signed::magnitude;
+ghost use mathlib.Core.Path.{_≡_};
+ghost use Prim.Native.Nat.{_+_, _≤_};
+ghost use mathlib.Core.List.{[]};
+ghost use lib.ListN.{length};
+ghost use Rattle.number.specs.Be.{bytesOf};
+ghost use Rattle.event.specs.Meaning.{meaningOf, givenOf, valueOf};
+ghost use Rattle.line.specs.Line.{row, lengthGiven, signed, lineOf, refusalLine};
+ghost use Rattle.line.specs.Piece.{Written, numeralOf, spaceOf, lineSize, Room};
+ghost use Rattle.line.specs.Put.{putEnd, putInto, fixedLine};
+
+// The place after a line, or that it doesn't fit.
+pub enum Put {
+    End(usize),
+    NoRoom,
+}
+
+// The lines of one word about the listing itself.
+pub enum Fixed {
+    Events,
+    End,
+    Stopped,
+}
+
+// The line of an event, beside which the bytes of its data or text stand.
+pub fn put_event(out: &mut [u8], at: usize, event: Event, bytes: &[u8]) -> Put
+    ensures { λ r. ⌜ r ≡ putEnd (now (out .entry)) at (lineOf (meaningOf event (now (bytes .entry)))) ⌝ }
+    ensures { λ _. ⌜ now (out .exit) ≡ putInto (now (out .entry)) at (lineOf (meaningOf event (now (bytes .entry)))) ⌝ }
+{
+    match event {
+        Event::StartArray(length) => put_row(out, at, b"array", given(length), b""),
+        Event::StartDictionary(length) => put_row(out, at, b"dict", given(length), b""),
+        Event::EndCollection => put_row(out, at, b"close", Numeral::Nothing, b""),
+        Event::Boolean(value) => {
+            if value {
+                put_row(out, at, b"true", Numeral::Nothing, b"")
+            } else {
+                put_row(out, at, b"false", Numeral::Nothing, b"")
+            }
+        }
+        Event::Data => put_row(out, at, b"data", Numeral::Plus(bytes.len() as u64), bytes),
+        Event::Date(bits) => put_bits(out, at, b"date", bits),
+        Event::Integer(integer) => put_row(out, at, b"int", value_of(integer), b""),
+        Event::Real(x) => put_bits(out, at, b"real", float_bits(x)),
+        Event::Nan(bits) => put_bits(out, at, b"real", bits),
+        Event::String => put_row(out, at, b"str", Numeral::Plus(bytes.len() as u64), bytes),
+        Event::Uid(n) => put_row(out, at, b"uid", Numeral::Plus(n), b""),
+    }
+}
+
+// `refused N at P`.
+pub fn put_refusal(out: &mut [u8], at: usize, number: u64, place: u64) -> Put
+    ensures { λ r. ⌜ r ≡ putEnd (now (out .entry)) at (refusalLine number place) ⌝ }
+    ensures { λ _. ⌜ now (out .exit) ≡ putInto (now (out .entry)) at (refusalLine number place) ⌝ }
+{
+    let numbers = numeral_length(Numeral::Plus(number)) + numeral_length(Numeral::Plus(place));
+    if has_room(out.len(), at, 10, numbers, 0) {
+        let number_at = write_bytes(out, at, b"refused");
+        let at_at = write_numeral(out, number_at, Numeral::Plus(number));
+        return Put::End(write_row(out, at_at, b" at", Numeral::Plus(place), b""));
+    }
+    Put::NoRoom
+}
+
+pub fn put_fixed(out: &mut [u8], at: usize, fixed: Fixed) -> Put
+    ensures { λ r. ⌜ r ≡ putEnd (now (out .entry)) at (fixedLine fixed) ⌝ }
+    ensures { λ _. ⌜ now (out .exit) ≡ putInto (now (out .entry)) at (fixedLine fixed) ⌝ }
+{
+    match fixed {
+        Fixed::Events => put_row(out, at, b"events", Numeral::Nothing, b""),
+        Fixed::End => put_row(out, at, b"end", Numeral::Nothing, b""),
+        Fixed::Stopped => put_row(out, at, b"stopped", Numeral::Nothing, b""),
+    }
+}
+
+// A word and 16 hex digits.
+fn put_bits(out: &mut [u8], at: usize, word: &[u8], bits: u64) -> Put
+    ensures { λ r. ⌜ r ≡ putEnd (now (out .entry)) at (row (now (word .entry)) [] (bytesOf 8 bits)) ⌝ }
+    ensures { λ _. ⌜ now (out .exit) ≡ putInto (now (out .entry)) at (row (now (word .entry)) [] (bytesOf 8 bits)) ⌝ }
+{
+    let mut bytes = [0u8; 8];
+    write_be(&mut bytes, bits);
+    put_row(out, at, word, Numeral::Nothing, &bytes)
+}
+
+// A line is measured first, so that one that doesn't fit changes nothing.
+fn put_row(out: &mut [u8], at: usize, word: &[u8], number: Numeral, bytes: &[u8]) -> Put
+    ensures { λ r. ⌜ r ≡ putEnd (now (out .entry)) at (row (now (word .entry)) (numeralOf number) (now (bytes .entry))) ⌝ }
+    ensures { λ _. ⌜ now (out .exit) ≡ putInto (now (out .entry)) at (row (now (word .entry)) (numeralOf number) (now (bytes .entry))) ⌝ }
+{
+    let digits = numeral_length(number);
+    if has_room(out.len(), at, word.len(), digits, bytes.len()) {
+        return Put::End(write_row(out, at, word, number, bytes));
+    }
+    Put::NoRoom
+}
+
+fn write_row(out: &mut [u8], at: usize, word: &[u8], number: Numeral, bytes: &[u8]) -> usize
+    requires { ⌜ at + length (row (now word) (numeralOf number) (now bytes)) ≤ length (now out) ⌝ }
+    ensures { λ r. ⌜ Written (now (out .entry)) at (row (now (word .entry)) (numeralOf number) (now (bytes .entry))) (now (out .exit)) r ⌝ }
+{
+    let number_at = write_bytes(out, at, word);
+    let bytes_at = write_numeral(out, number_at, number);
+    let newline_at = write_tail(out, bytes_at, bytes);
+    write_bytes(out, newline_at, b"\n")
+}
+
+// Whether a line fits from a place on: its word, its numbers, its bytes, its newline. No sum here can pass the top.
+fn has_room(room: usize, at: usize, word: usize, numbers: usize, bytes: usize) -> bool
+    requires { ⌜ numbers ≤ 44 ⌝ }
+    ensures { λ r. ⌜ Room room at (lineSize word numbers bytes) r ⌝ }
+{
+    if room / 2 < bytes {
+        return false;
+    }
+    let left = room - 2 * bytes;
+    if left < word {
+        return false;
+    }
+    let rest = left - word;
+    let small = numbers + space_of(bytes) + 1;
+    if rest < small {
+        return false;
+    }
+    if rest - small < at {
+        return false;
+    }
+    true
+}
+
+// The space before the bytes, where there are any.
+fn space_of(bytes: usize) -> usize
+    ensures { λ r. ⌜ r ≡ spaceOf bytes ⌝ }
+    ensures { λ r. ⌜ r ≤ 1 ⌝ }
+{
+    if bytes == 0 { 0 } else { 1 }
+}
+
+fn given(length: Length) -> Numeral
+    ensures { λ r. ⌜ numeralOf r ≡ lengthGiven (givenOf length) ⌝ }
+{
+    match length {
+        Length::Given(n) => Numeral::Plus(n),
+        Length::NotGiven => Numeral::Nothing,
+    }
+}
+
+fn value_of(integer: Integer) -> Numeral
+    ensures { λ r. ⌜ numeralOf r ≡ signed (valueOf integer) ⌝ }
+{
+    match integer {
+        Integer::Signed(z) => {
+            if z < 0 {
+                Numeral::Minus(magnitude(z) + 1)
+            } else {
+                Numeral::Plus(magnitude(z))
+            }
+        }
+        Integer::Unsigned(n) => Numeral::Plus(n),
+    }
+}

@@ -1,0 +1,82 @@
+// The reader's answers as lines on standard output, and the listing of a whole file.
+pub mod list;
+
+use event::Event;
+use libc::STDOUT_FILENO;
+use line::put::Fixed;
+use line::put::Put;
+use line::put::put_event;
+use line::put::put_fixed;
+use line::put::put_refusal;
+use reader::answer::Answer;
+use reader::answer::Record;
+use reader::answer::Refusal;
+use reader::request::text_length;
+use reader::request::text_part;
+ghost use mathlib.Core.Path.{_≡_};
+ghost use Rattle.reader.specs.Said.{numberOf};
+
+pub fn say_answer(file: &[u8], scratch: &mut [u8], out: &mut [u8], answer: Answer) {
+    match answer {
+        Answer::Handed(handed) => say_event(file, scratch, out, handed),
+        Answer::Ended => say_fixed(out, Fixed::End),
+        Answer::Refused(refusal, place) => say_refusal(out, number_of(refusal), place),
+    }
+}
+
+// An event's bytes are asked for first. The part is empty where there are none, and where the request is refused.
+pub fn say_event(file: &[u8], scratch: &mut [u8], out: &mut [u8], handed: Record) {
+    text_length(file, scratch, handed);
+    let event = handed.event;
+    let put = put_event(out, 0, event, text_part(file, scratch, handed));
+    say_put(out, put);
+}
+
+pub fn say_fixed(out: &mut [u8], fixed: Fixed) {
+    let put = put_fixed(out, 0, fixed);
+    say_put(out, put);
+}
+
+pub fn say_refusal(out: &mut [u8], number: u64, place: u64) {
+    let put = put_refusal(out, 0, number, place);
+    say_put(out, put);
+}
+
+// The line at the start of the memory.
+fn say_put(out: &[u8], put: Put) {
+    match put {
+        Put::End(end) => {
+            if end <= out.len() {
+                io::write_all(STDOUT_FILENO, &out[..end]);
+            }
+        }
+        Put::NoRoom => {
+            io::write_all(STDOUT_FILENO, b"no room\n");
+        }
+    }
+}
+
+// A refusal's number in document 01.
+pub fn number_of(refusal: Refusal) -> u64
+    ensures { λ r. ⌜ r ≡ numberOf refusal ⌝ }
+{
+    match refusal {
+        Refusal::TooLong => 1,
+        Refusal::EndOfInput => 2,
+        Refusal::InvalidMagic => 3,
+        Refusal::InvalidTrailerObjectOffsetSize => 4,
+        Refusal::InvalidTrailerObjectReferenceSize => 5,
+        Refusal::ObjectOffsetTooLarge => 6,
+        Refusal::ObjectReferenceTooLarge => 7,
+        Refusal::NullObjectUnimplemented => 8,
+        Refusal::FillObjectUnimplemented => 9,
+        Refusal::UnknownObjectType(_) => 10,
+        Refusal::IntegerOutOfRange => 11,
+        Refusal::InvalidUtf8String => 12,
+        Refusal::InvalidUtf16String => 13,
+        Refusal::RecursiveObject => 14,
+        Refusal::TooDeep => 15,
+        Refusal::NoRoomForText => 16,
+        Refusal::WrongFile => 17,
+    }
+}

@@ -1,0 +1,216 @@
+-- `step`: the kind decides, and each class of kinds is read by its own function.
+use mathlib.Core.Path.{refl, ap, sym, _∙_}
+use borrow.Author.Needs.{needs}
+use borrow.Author.Tests.{ne-eqb}
+use lib.ListN.{getD}
+use Rattle.tape.specs.Item.{numbered, negative, dataIn, textIn, ofKind}
+use Rattle.tape.specs.Kinds.{eventOf}
+use Rattle.tape.specs.KindsLaws.{item-of, item-past}
+use Rattle.tape.proofs.step.step.Statement.{statement}
+use Rattle.tape.proofs.step.step.Tie as tie
+
+returns : tie.Need-returns
+returns c = sym (item-past _ _ (c .if1 .taken))
+
+add-next : tie.Need-add-next
+add-next c = search needs
+
+shared-slice-read-match : tie.Need-shared-slice-read-match
+shared-slice-read-match c = search needs
+
+no-bytes-requires : tie.Need-no-bytes-requires
+no-bytes-requires c κs = search needs
+
+no-bytes-requires-2 : tie.Need-no-bytes-requires-2
+no-bytes-requires-2 c κs = search needs
+
+number-at-requires : tie.Need-number-at-requires
+number-at-requires c κs = search needs
+
+numbered-requires : tie.Need-numbered-requires
+numbered-requires c κs = search needs
+
+number-at-requires-2 : tie.Need-number-at-requires-2
+number-at-requires-2 c κs = search needs
+
+negative-requires : tie.Need-negative-requires
+negative-requires c κs = search needs
+
+eight-at-requires : tie.Need-eight-at-requires
+eight-at-requires c κs = search needs
+
+numbered-requires-2 : tie.Need-numbered-requires-2
+numbered-requires-2 c κs = search needs
+
+eight-at-requires-2 : tie.Need-eight-at-requires-2
+eight-at-requires-2 c κs = search needs
+
+numbered-requires-3 : tie.Need-numbered-requires-3
+numbered-requires-3 c κs = search needs
+
+number-at-requires-3 : tie.Need-number-at-requires-3
+number-at-requires-3 c κs = search needs
+
+numbered-requires-4 : tie.Need-numbered-requires-4
+numbered-requires-4 c κs = search needs
+
+number-at-requires-4 : tie.Need-number-at-requires-4
+number-at-requires-4 c κs = search needs
+
+data-at-requires : tie.Need-data-at-requires
+data-at-requires c κs = search needs
+
+number-at-requires-5 : tie.Need-number-at-requires-5
+number-at-requires-5 c κs = search needs
+
+text-at-requires : tie.Need-text-at-requires
+text-at-requires c κs = search needs
+
+no-bytes-requires-3 : tie.Need-no-bytes-requires-3
+no-bytes-requires-3 c κs = search needs
+
+number-at-requires-6 : tie.Need-number-at-requires-6
+number-at-requires-6 c κs = search needs
+
+numbered-requires-5 : tie.Need-numbered-requires-5
+numbered-requires-5 c κs = search needs
+
+no-bytes-requires-4 : tie.Need-no-bytes-requires-4
+no-bytes-requires-4 c κs = search needs
+
+number-at-requires-7 : tie.Need-number-at-requires-7
+number-at-requires-7 c κs = search needs
+
+numbered-requires-6 : tie.Need-numbered-requires-6
+numbered-requires-6 c κs = search needs
+
+no-bytes-requires-5 : tie.Need-no-bytes-requires-5
+no-bytes-requires-5 c κs = search needs
+
+returns-2 : tie.Need-returns-2
+unfolding ofKind
+returns-2 c = c .no-bytes .ensures ∙ sym (item-of _ _ _ (c .before .before .before .if1 .left) (c .before .match .keys1))
+
+returns-3 : tie.Need-returns-3
+unfolding ofKind
+returns-3 c = c .no-bytes2 .ensures ∙ sym (item-of _ _ _ (c .before .before .before .if1 .left) (c .before .match .keys2))
+
+returns-4 : tie.Need-returns-4
+unfolding ofKind eventOf
+returns-4 c = c .numbered .ensures ∙ ap (numbered (eventOf 0x03)) (c .before .number-at .ensures) ∙ sym (item-of _ _ _ (c .before .before .before .before .if1 .left) (c .before .before .match .keys3))
+
+returns-5 : tie.Need-returns-5
+unfolding ofKind
+returns-5 c = c .negative .ensures ∙ ap negative (c .before .number-at2 .ensures) ∙ sym (item-of _ _ _ (c .before .before .before .before .if1 .left) (c .before .before .match .keys4))
+
+returns-6 : tie.Need-returns-6
+unfolding ofKind eventOf
+returns-6 c = c .numbered2 .ensures ∙ ap (numbered (eventOf 0x05)) (c .before .eight-at .ensures) ∙ sym (item-of _ _ _ (c .before .before .before .before .if1 .left) (c .before .before .match .keys5))
+
+returns-7 : tie.Need-returns-7
+unfolding ofKind eventOf
+returns-7 c = c .numbered3 .ensures ∙ ap (numbered (eventOf 0x06)) (c .before .eight-at2 .ensures) ∙ sym (item-of _ _ _ (c .before .before .before .before .if1 .left) (c .before .before .match .keys6))
+
+returns-8 : tie.Need-returns-8
+unfolding ofKind eventOf
+returns-8 c = c .numbered4 .ensures ∙ ap (numbered (eventOf 0x07)) (c .before .number-at3 .ensures) ∙ sym (item-of _ _ _ (c .before .before .before .before .if1 .left) (c .before .before .match .keys7))
+
+returns-9 : tie.Need-returns-9
+unfolding ofKind
+returns-9 c =
+    let a = c .before .before .before .before .before .before .args in
+    c .data-at .ensures ∙ ap (dataIn (a .tape .now)) (c .before .number-at4 .ensures) ∙ sym (item-of _ _ _ (c .before .before .before .before .if1 .left) (c .before .before .match .keys8))
+
+returns-10 : tie.Need-returns-10
+unfolding ofKind
+returns-10 c =
+    let a = c .before .before .before .before .before .before .args in
+    c .text-at .ensures ∙ ap (textIn (a .tape .now)) (c .before .number-at5 .ensures) ∙ sym (item-of _ _ _ (c .before .before .before .before .if1 .left) (c .before .before .match .keys9))
+
+returns-11 : tie.Need-returns-11
+unfolding ofKind
+returns-11 c = c .no-bytes3 .ensures ∙ sym (item-of _ _ _ (c .before .before .before .if1 .left) (c .before .match .keys10))
+
+returns-12 : tie.Need-returns-12
+unfolding ofKind eventOf
+returns-12 c = c .numbered5 .ensures ∙ ap (numbered (eventOf 0x0B)) (c .before .number-at6 .ensures) ∙ sym (item-of _ _ _ (c .before .before .before .before .if1 .left) (c .before .before .match .keys11))
+
+returns-13 : tie.Need-returns-13
+unfolding ofKind
+returns-13 c = c .no-bytes4 .ensures ∙ sym (item-of _ _ _ (c .before .before .before .if1 .left) (c .before .match .keys12))
+
+returns-14 : tie.Need-returns-14
+unfolding ofKind eventOf
+returns-14 c = c .numbered6 .ensures ∙ ap (numbered (eventOf 0x0D)) (c .before .number-at7 .ensures) ∙ sym (item-of _ _ _ (c .before .before .before .before .if1 .left) (c .before .before .match .keys13))
+
+returns-15 : tie.Need-returns-15
+unfolding ofKind
+returns-15 c = c .no-bytes5 .ensures ∙ sym (item-of _ _ _ (c .before .before .before .if1 .left) (c .before .match .keys14))
+
+returns-16 : tie.Need-returns-16
+unfolding ofKind
+returns-16 c =
+    let k = getD (c .before .before .before .before .args .tape .now) (c .before .before .before .before .args .at) 0 in
+    let r = c .match .rest in
+    sym (item-of _ _ _ (c .before .before .if1 .left) refl ∙ simp (
+      ne-eqb k 0x01 (r .0 .0 .0 .0 .0 .0 .0 .0 .0 .0 .0 .0 .0 .1),
+      ne-eqb k 0x02 (r .0 .0 .0 .0 .0 .0 .0 .0 .0 .0 .0 .0 .1),
+      ne-eqb k 0x03 (r .0 .0 .0 .0 .0 .0 .0 .0 .0 .0 .0 .1),
+      ne-eqb k 0x04 (r .0 .0 .0 .0 .0 .0 .0 .0 .0 .0 .1),
+      ne-eqb k 0x05 (r .0 .0 .0 .0 .0 .0 .0 .0 .0 .1),
+      ne-eqb k 0x06 (r .0 .0 .0 .0 .0 .0 .0 .0 .1),
+      ne-eqb k 0x07 (r .0 .0 .0 .0 .0 .0 .0 .1),
+      ne-eqb k 0x08 (r .0 .0 .0 .0 .0 .0 .1),
+      ne-eqb k 0x09 (r .0 .0 .0 .0 .0 .1),
+      ne-eqb k 0x0A (r .0 .0 .0 .0 .1),
+      ne-eqb k 0x0B (r .0 .0 .0 .1),
+      ne-eqb k 0x0C (r .0 .0 .1),
+      ne-eqb k 0x0D (r .0 .1),
+      ne-eqb k 0x0E (r .1),
+    ))
+
+pub step-spec : {M : Type 1} → statement M
+step-spec =
+    tie.close
+    (tie.spec
+    returns
+    add-next
+    shared-slice-read-match
+    no-bytes-requires
+    no-bytes-requires-2
+    number-at-requires
+    numbered-requires
+    number-at-requires-2
+    negative-requires
+    eight-at-requires
+    numbered-requires-2
+    eight-at-requires-2
+    numbered-requires-3
+    number-at-requires-3
+    numbered-requires-4
+    number-at-requires-4
+    data-at-requires
+    number-at-requires-5
+    text-at-requires
+    no-bytes-requires-3
+    number-at-requires-6
+    numbered-requires-5
+    no-bytes-requires-4
+    number-at-requires-7
+    numbered-requires-6
+    no-bytes-requires-5
+    returns-2
+    returns-3
+    returns-4
+    returns-5
+    returns-6
+    returns-7
+    returns-8
+    returns-9
+    returns-10
+    returns-11
+    returns-12
+    returns-13
+    returns-14
+    returns-15
+    returns-16)

@@ -1,0 +1,41 @@
+-- An event appended to a tape of which the front is held.
+use mathlib.Core.Bool.{Bool, cond}
+use mathlib.Core.List.{List}
+use Prim.Native.Nat.{ℕ, _+_}
+use lib.Dec.{leb}
+use lib.ListN.{length}
+use lib.Seq.{sets}
+use Rattle.event.specs.Meaning.{Meaning}
+use Rattle.tape.specs.Code.{bytesFor, allowed}
+use Rattle.tape.specs.declared.append.Appended.{Appended}
+use Rattle.tape.specs.declared.append.Appended.the-variants.{Held, BadText, NoRoom}
+
+-- how many bytes are held afterwards, or a refusal's number and place
+pub data Said : Type 0 where
+  held : ℕ → Said
+  refused : ℕ → ℕ → Said
+
+-- Document 01: "Appending text that isn't UTF-8: 20; else what doesn't fit: 27 NoRoomForTape."
+unfoldable pub said : Appended → Said
+said (Held n) = held n
+said (BadText place) = refused 20 place
+said (NoRoom place) = refused 27 place
+
+-- whether bytes fit into a tape from a place on
+unfoldable pub fits : List ℕ → ℕ → List ℕ → Bool
+fits tape at s = leb (at + length s) (length tape)
+
+-- "what doesn't fit: 27", at "the place where the event would begin"
+unfoldable pub putOf : List ℕ → ℕ → List ℕ → Said
+putOf tape at s = cond (fits tape at s) (held (at + length s)) (refused 27 at)
+
+-- the tape afterwards: the bytes in the place of as many, or unchanged
+unfoldable pub putTo : List ℕ → ℕ → List ℕ → List ℕ
+putTo tape at s = cond (fits tape at s) (sets tape at s) tape
+
+-- "Appending text that isn't UTF-8: 20; else .."
+unfoldable pub appendOf : List ℕ → ℕ → Meaning → Said
+appendOf tape at m = cond (allowed m) (putOf tape at (bytesFor m)) (refused 20 at)
+
+unfoldable pub appendTo : List ℕ → ℕ → Meaning → List ℕ
+appendTo tape at m = cond (allowed m) (putTo tape at (bytesFor m)) tape

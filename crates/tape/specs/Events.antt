@@ -1,0 +1,32 @@
+-- A tape as a whole: the events that it is, or those before the first place where it is bad.
+use mathlib.Core.Bool.{cond}
+use mathlib.Core.List.{List, [], _∷_, _++_}
+use Prim.Native.Nat.{ℕ, zero, suc}
+use lib.Dec.{leb}
+use lib.ListN.{length}
+use Rattle.event.specs.Meaning.{Meaning}
+use Rattle.tape.specs.Code.{bytesFor}
+use Rattle.tape.specs.Item.{event, bad, readAt}
+
+pub data Events : Type 0 where
+  whole : List Meaning → Events
+  broken : List Meaning → ℕ → Events
+
+-- an event in front of others
+unfoldable pub before : Meaning → Events → Events
+before m (whole ms) = whole (m ∷ ms)
+before m (broken ms place) = broken (m ∷ ms) place
+
+-- the events from a place on, at most k of them; an event has a byte at least
+unfoldable pub eventsFrom : ℕ → List ℕ → ℕ → Events
+eventsFrom zero tape at = whole []
+eventsFrom (suc k) tape at =
+    cond (leb (length tape) at) (whole []) (elim (readAt tape at) [ bad ↦ broken [] at | event m next ↦ before m (eventsFrom k tape next) ])
+
+unfoldable pub eventsOf : List ℕ → Events
+eventsOf tape = eventsFrom (length tape) tape 0
+
+-- the bytes of events, one after another
+unfoldable pub tapeOf : List Meaning → List ℕ
+tapeOf [] = []
+tapeOf (m ∷ ms) = bytesFor m ++ tapeOf ms

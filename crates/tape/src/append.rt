@@ -1,0 +1,167 @@
+// An event appended to the tape.
+use crate::room::lacks_room;
+use crate::seven::groups_in;
+use crate::seven::write_number;
+use event::Event;
+use event::Integer;
+use event::Length;
+use event::real::float_bits;
+use number::be::write_be;
+use number::signed::magnitude;
+use unicode::utf8::is_utf8;
+ghost use mathlib.Core.List.{[], _∷_, _++_};
+ghost use mathlib.Core.Path.{_≡_};
+ghost use Prim.Native.Nat.{_+_, _≤_, _<_};
+ghost use lib.ListN.{length};
+ghost use lib.Seq.{sets};
+ghost use Rattle.event.specs.Meaning.{boolean, integer, text, meaningOf, valueOf};
+ghost use Rattle.number.specs.Be.{bytesOf};
+ghost use Rattle.tape.specs.Append.{said, putOf, putTo, appendOf, appendTo};
+ghost use Rattle.tape.specs.Seven.{seven};
+ghost use Rattle.tape.specs.Kinds.{startBytes, signKind};
+
+// How many bytes are held afterwards, or why nothing is appended, with the place where the event would begin.
+pub enum Appended {
+    Held(usize),
+    BadText(u64),
+    NoRoom(u64),
+}
+
+// The event behind the bytes that are held; `bytes` are those of data or text. A refusal leaves the tape as it is.
+pub fn append(tape: &mut [u8], held: usize, event: Event, bytes: &[u8]) -> Appended
+    ensures { λ r. ⌜ said r ≡ appendOf (now (tape .entry)) held (meaningOf event (now (bytes .entry))) ⌝ }
+    ensures { λ _. ⌜ now (tape .exit) ≡ appendTo (now (tape .entry)) held (meaningOf event (now (bytes .entry))) ⌝ }
+{
+    match event {
+        Event::StartArray(length) => append_start(tape, held, 0x0a, length),
+        Event::StartDictionary(length) => append_start(tape, held, 0x0c, length),
+        Event::EndCollection => append_kind(tape, held, 0x0e),
+        Event::Boolean(value) => append_boolean(tape, held, value),
+        Event::Data => append_bytes(tape, held, 0x08, bytes),
+        Event::Date(bits) => append_eight(tape, held, 0x06, bits),
+        Event::Integer(value) => append_integer(tape, held, value),
+        Event::Real(value) => append_eight(tape, held, 0x05, float_bits(value)),
+        Event::Nan(bits) => append_eight(tape, held, 0x05, bits),
+        Event::String => append_text(tape, held, bytes),
+        Event::Uid(n) => append_number(tape, held, 0x07, n),
+    }
+}
+
+// A container with its length has the kind after that of one without.
+fn append_start(tape: &mut [u8], held: usize, kind: u8, length: Length) -> Appended
+    requires { ⌜ kind < 0xff ⌝ }
+    ensures { λ r. ⌜ said r ≡ putOf (now (tape .entry)) held (startBytes kind length) ⌝ }
+    ensures { λ _. ⌜ now (tape .exit) ≡ putTo (now (tape .entry)) held (startBytes kind length) ⌝ }
+{
+    match length {
+        Length::NotGiven => append_kind(tape, held, kind),
+        Length::Given(n) => append_number(tape, held, kind + 1, n),
+    }
+}
+
+fn append_boolean(tape: &mut [u8], held: usize, value: bool) -> Appended
+    ensures { λ r. ⌜ said r ≡ appendOf (now (tape .entry)) held (boolean value) ⌝ }
+    ensures { λ _. ⌜ now (tape .exit) ≡ appendTo (now (tape .entry)) held (boolean value) ⌝ }
+{
+    if value {
+        append_kind(tape, held, 0x02)
+    } else {
+        append_kind(tape, held, 0x01)
+    }
+}
+
+// A negative integer n stands as -1 - n.
+fn append_integer(tape: &mut [u8], held: usize, value: Integer) -> Appended
+    ensures { λ r. ⌜ said r ≡ appendOf (now (tape .entry)) held (integer (valueOf value)) ⌝ }
+    ensures { λ _. ⌜ now (tape .exit) ≡ appendTo (now (tape .entry)) held (integer (valueOf value)) ⌝ }
+{
+    match value {
+        Integer::Unsigned(n) => append_number(tape, held, 0x03, n),
+        Integer::Signed(z) => append_number(tape, held, sign_kind(z), magnitude(z)),
+    }
+}
+
+fn sign_kind(z: i64) -> u8
+    ensures { λ r. ⌜ r ≡ signKind z ⌝ }
+{
+    if z < 0 { 0x04 } else { 0x03 }
+}
+
+fn append_text(tape: &mut [u8], held: usize, bytes: &[u8]) -> Appended
+    ensures { λ r. ⌜ said r ≡ appendOf (now (tape .entry)) held (text (now (bytes .entry))) ⌝ }
+    ensures { λ _. ⌜ now (tape .exit) ≡ appendTo (now (tape .entry)) held (text (now (bytes .entry))) ⌝ }
+{
+    if is_utf8(bytes) {
+        return append_bytes(tape, held, 0x09, bytes);
+    }
+    Appended::BadText(held as u64)
+}
+
+// A kind alone.
+fn append_kind(tape: &mut [u8], held: usize, kind: u8) -> Appended
+    ensures { λ r. ⌜ said r ≡ putOf (now (tape .entry)) held (kind ∷ []) ⌝ }
+    ensures { λ _. ⌜ now (tape .exit) ≡ putTo (now (tape .entry)) held (kind ∷ []) ⌝ }
+{
+    if lacks_room(tape.len(), held, 1) {
+        return Appended::NoRoom(held as u64);
+    }
+    tape[held] = kind;
+    Appended::Held(held + 1)
+}
+
+// A kind and a number.
+fn append_number(tape: &mut [u8], held: usize, kind: u8, n: u64) -> Appended
+    ensures { λ r. ⌜ said r ≡ putOf (now (tape .entry)) held (kind ∷ seven n) ⌝ }
+    ensures { λ _. ⌜ now (tape .exit) ≡ putTo (now (tape .entry)) held (kind ∷ seven n) ⌝ }
+{
+    if lacks_room(tape.len(), held, 1 + groups_in(n)) {
+        return Appended::NoRoom(held as u64);
+    }
+    tape[held] = kind;
+    Appended::Held(write_number(tape, held + 1, n))
+}
+
+// A kind and 8 bytes, the high one first.
+fn append_eight(tape: &mut [u8], held: usize, kind: u8, bits: u64) -> Appended
+    ensures { λ r. ⌜ said r ≡ putOf (now (tape .entry)) held (kind ∷ bytesOf 8 bits) ⌝ }
+    ensures { λ _. ⌜ now (tape .exit) ≡ putTo (now (tape .entry)) held (kind ∷ bytesOf 8 bits) ⌝ }
+{
+    if lacks_room(tape.len(), held, 9) {
+        return Appended::NoRoom(held as u64);
+    }
+    tape[held] = kind;
+    let start = held + 1;
+    let end = held + 9;
+    write_be(&mut tape[start..end], bits);
+    Appended::Held(end)
+}
+
+// A kind, a length and so many bytes.
+fn append_bytes(tape: &mut [u8], held: usize, kind: u8, bytes: &[u8]) -> Appended
+    ensures { λ r. ⌜ said r ≡ putOf (now (tape .entry)) held (kind ∷ (seven (length (now (bytes .entry))) ++ now (bytes .entry))) ⌝ }
+    ensures { λ _. ⌜ now (tape .exit) ≡ putTo (now (tape .entry)) held (kind ∷ (seven (length (now (bytes .entry))) ++ now (bytes .entry))) ⌝ }
+{
+    let length = bytes.len() as u64;
+    let head = 1 + groups_in(length);
+    if lacks_room(tape.len(), held, head) {
+        return Appended::NoRoom(held as u64);
+    }
+    if lacks_room(tape.len(), held + head, bytes.len()) {
+        return Appended::NoRoom(held as u64);
+    }
+    tape[held] = kind;
+    let start = write_number(tape, held + 1, length);
+    write_bytes(tape, start, bytes);
+    Appended::Held(start + bytes.len())
+}
+
+fn write_bytes(tape: &mut [u8], at: usize, bytes: &[u8])
+    requires { ⌜ at + length (now bytes) ≤ length (now tape) ⌝ }
+    ensures { λ _. ⌜ now (tape .exit) ≡ sets (now (tape .entry)) at (now (bytes .entry)) ⌝ }
+{
+    let mut i: usize = 0;
+    while i < bytes.len() {
+        tape[at + i] = bytes[i];
+        i += 1;
+    }
+}
