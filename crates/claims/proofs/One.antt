@@ -1,6 +1,6 @@
 -- Each contract of a public function leaves one answer, and one content of all lent memory.
 use mathlib.Core.List.{List}
-use mathlib.Core.Path.{_≡_, refl, sym, _∙_}
+use mathlib.Core.Path.{_≡_, refl, sym, ap, _∙_}
 use Prim.Native.Nat.{ℕ}
 use borrow.Fn.Kinds.{PK, RK, Out, Dens, endedOf, resT}
 use contract.Lifetimes.{Lfts}
@@ -9,6 +9,11 @@ use denote.Triple.Clauses.{AtExit}
 use Rattle.object.specs.FoundLaws.{foundOf-one}
 use Rattle.reader.specs.SaidLaws.{stepSaid-one, textSaid-one}
 use Rattle.tape.specs.AppendLaws.{said-one}
+use Rattle.transcribe.specs.Run.{Run}
+use Rattle.transcribe.specs.SaidLaws.{endSaid-one}
+use Rattle.transcribe.specs.declared.Transcript.{Transcript}
+use Rattle.transcribe.proofs.transcribe.Kinds as transcribe-kinds
+use Rattle.transcribe.proofs.transcribe.Reads as transcribe-reads
 use Rattle.claims.proofs.itself.Kinds as itself-kinds
 use Rattle.claims.proofs.itself.Reads as itself-reads
 use Rattle.event.proofs.real.real_of.Kinds as real-of-kinds
@@ -194,6 +199,14 @@ step-one κs a x y e f p q = (p ∙ sym q, refl)
 
 append-one : One 2 append-kinds.ps append-kinds.r append-reads.Post (List ℕ) (λ κs e. now (e .0))
 append-one κs a x y e f p q = (said-one x y (p .0 ∙ sym (q .0)), p .1 ∙ sym (q .1))
+
+transcribe-one : One 3 transcribe-kinds.ps transcribe-kinds.r transcribe-reads.Post (record { tape : List ℕ; scratch : List ℕ }) (λ κs e. record { tape = now (e .1 .1 .0); scratch = now (e .1 .0) })
+transcribe-one κs a x y e f p q =
+    let z = p ∙ sym q in
+    (same-transcript x y (endSaid-one (x .ending) (y .ending) (ap (λ (r : Run). r .ending) z)) (ap (λ (r : Run). r .held) z), rw (ap (λ (r : Run). r .tape) z, ap (λ (r : Run). r .scratch) z))
+  where
+    same-transcript : (x y : Transcript) → x .ending ≡ y .ending → x .held ≡ y .held → x ≡ y
+    same-transcript x y d h = rw (d, h)
 
 -- and the smallest of them, which a must-fail edit weakens
 itself-one : One 0 itself-kinds.ps itself-kinds.r itself-reads.Post (Unit {0}) (λ κs e. tt)
