@@ -1,2 +1,4 @@
 pub mod Codes
 pub mod CodesLaws
+pub mod TapeStep
+pub mod Transcript

@@ -1,2 +1,4 @@
 // What Rust and C link: each function is a thin one over a crate's own, by the C calling convention.
+pub mod tape_step;
 pub mod text;
+pub mod transcript;

@@ -1,9 +1,5 @@
-// Answers recorded files: a line of input is a file in hex; the answer is a block of lines, as compare/README.md says of `oracle read`.
-mod answer;
-mod event_line;
-
+// Answers files in hex, one a line, as compare/README.md says of `oracle read`: the events, how they end, and two calls more.
 fn main() {
-    let mut input = [0u8; 262144];
-    let n = io::read_full(0, &mut input);
-    answer::all(&input[..n]);
+    let mut buffer = [0u8; 262144];
+    replay::answer::all(&mut buffer);
 }

@@ -43,7 +43,7 @@ pub fn say_refusal(out: &mut [u8], number: u64, place: u64) {
 }
 
 // The line at the start of the memory.
-fn say_put(out: &[u8], put: Put) {
+pub fn say_put(out: &[u8], put: Put) {
     match put {
         Put::End(end) => {
             if end <= out.len() {

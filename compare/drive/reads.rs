@@ -1,0 +1,349 @@
+//! The proved reader and the crate's, on the same files, in one process. See compare/README.md.
+
+mod families;
+mod files;
+mod ours;
+mod random;
+mod tape;
+mod theirs;
+
+use std::{
+    cell::Cell,
+    env, fs,
+    panic::{self, AssertUnwindSafe},
+    process::ExitCode,
+    time::Instant,
+};
+
+use families::{marker_file, sized_file, Stock, FAMILIES};
+use random::Random;
+use theirs::{Answer, Watched};
+
+const USAGE: &str = "usage: reads RECORDED REAL [--seed N] [--count N]";
+
+/// Events after which both sides stop. Shared containers make a small file very long.
+const CAP: u64 = 500;
+/// A file that is changed at every byte has at most this many.
+const CHANGED_MOST: usize = 4096;
+/// A file of which every cut and every change is tried.
+const WHOLE_MOST: usize = 300;
+const TAPE: usize = 64 << 20;
+const SHOWN: usize = 5;
+
+fn main() -> ExitCode {
+    // A panic of the crate is a difference, and is shown as one.
+    panic::set_hook(Box::new(|_| ()));
+    match Settings::read() {
+        Some(settings) => run(&settings),
+        None => {
+            eprintln!("{USAGE}");
+            ExitCode::from(2)
+        }
+    }
+}
+
+struct Settings {
+    recorded: Vec<Vec<u8>>,
+    real: Vec<Vec<u8>>,
+    seed: u64,
+    count: usize,
+}
+
+impl Settings {
+    fn read() -> Option<Settings> {
+        let words: Vec<String> = env::args().skip(1).collect();
+        let (recorded, real) = (hex_lines(words.first()?)?, hex_lines(words.get(1)?)?);
+        let mut settings = Settings {
+            recorded,
+            real,
+            seed: 1,
+            count: 10_000_000,
+        };
+        for pair in words[2..].chunks(2) {
+            match (pair[0].as_str(), pair.get(1)?.parse().ok()?) {
+                ("--seed", n) => settings.seed = n as u64,
+                ("--count", n) => settings.count = n,
+                _ => return None,
+            }
+        }
+        Some(settings)
+    }
+}
+
+/// The last word of each line, from hex. An empty line is an empty file.
+fn hex_lines(path: &str) -> Option<Vec<Vec<u8>>> {
+    let lines = fs::read_to_string(path).ok()?;
+    lines
+        .lines()
+        .map(|line| from_hex(line.split(' ').next_back()?))
+        .collect()
+}
+
+fn from_hex(text: &str) -> Option<Vec<u8>> {
+    let pairs = (0..text.len()).step_by(2);
+    pairs
+        .map(|i| u8::from_str_radix(text.get(i..i + 2)?, 16).ok())
+        .collect()
+}
+
+fn run(settings: &Settings) -> ExitCode {
+    let start = Instant::now();
+    let mut judge = Judge::new();
+    each_recorded(settings, &mut judge);
+    each_real(settings, &mut judge);
+    for pair in 0..=u16::MAX {
+        let [first, second] = pair.to_be_bytes();
+        judge.ask("every marker", &marker_file(first, second, &[1; 18]));
+        judge.ask("every marker", &marker_file(first, second, &[0; 18]));
+        judge.ask("every size", &sized_file(first, second));
+    }
+    drawn(settings, &mut judge);
+    judge.report(start)
+}
+
+/// Each recorded file, every cut of it, and each of its bytes changed to all others.
+fn each_recorded(settings: &Settings, judge: &mut Judge) {
+    for file in &settings.recorded {
+        judge.ask("recorded", file);
+        if file.len() <= WHOLE_MOST {
+            every_cut_and_change("recorded", file, judge);
+        }
+    }
+}
+
+fn every_cut_and_change(name: &'static str, file: &[u8], judge: &mut Judge) {
+    for cut in 0..file.len() {
+        judge.ask("every cut", &file[..cut]);
+        judge.ask("every cut", &file[cut..]);
+    }
+    let mut changed = file.to_vec();
+    let label = if name == "real" {
+        "every change, real"
+    } else {
+        "every change"
+    };
+    for at in 0..file.len() {
+        for byte in 0..=255 {
+            if byte != file[at] {
+                changed[at] = byte;
+                judge.ask(label, &changed);
+            }
+        }
+        changed[at] = file[at];
+    }
+}
+
+/// Each file of another writer, and of the small ones every cut and some changes.
+fn each_real(settings: &Settings, judge: &mut Judge) {
+    for (index, file) in settings.real.iter().enumerate() {
+        judge.ask("real", file);
+        if index % 16 == 0 && file.len() <= WHOLE_MOST {
+            every_cut_and_change("real", file, judge);
+        }
+    }
+}
+
+/// Files of all families in turn, by the seed.
+fn drawn(settings: &Settings, judge: &mut Judge) {
+    let good = settings.recorded.iter().chain(&settings.real);
+    let samples = good
+        .filter(|file| file.len() <= CHANGED_MOST)
+        .cloned()
+        .collect();
+    let stock = Stock {
+        samples,
+        numbers: files::numbers(),
+    };
+    let mut random = Random::new(settings.seed);
+    for index in 0..settings.count {
+        let (name, family) = FAMILIES[index % FAMILIES.len()];
+        judge.ask(name, &family(&mut random, &stock));
+    }
+}
+
+/// The lent memory, what was counted, and the differences.
+struct Judge {
+    scratch: Vec<u8>,
+    tape: Vec<u8>,
+    inputs: u64,
+    events: u64,
+    families: Vec<(&'static str, u64)>,
+    /// By the number: 0 for the end, 255 for the cap.
+    endings: [u64; 256],
+    places: u64,
+    dates: u64,
+    depths: u64,
+    differences: u64,
+    smallest: Option<(Vec<u8>, String)>,
+}
+
+/// How a comparison came out where nothing differed.
+enum Outcome {
+    Ended(u8, bool),
+    Date,
+    Depth,
+}
+
+impl Judge {
+    fn new() -> Judge {
+        Judge {
+            scratch: vec![0; 1 << 20],
+            tape: vec![0; TAPE],
+            inputs: 0,
+            events: 0,
+            families: Vec::new(),
+            endings: [0; 256],
+            places: 0,
+            dates: 0,
+            depths: 0,
+            differences: 0,
+            smallest: None,
+        }
+    }
+
+    fn ask(&mut self, family: &'static str, file: &[u8]) {
+        self.inputs += 1;
+        match self.families.iter_mut().find(|(name, _)| *name == family) {
+            Some((_, count)) => *count += 1,
+            None => self.families.push((family, 1)),
+        }
+        let asked = panic::catch_unwind(AssertUnwindSafe(|| self.compare(file)));
+        match asked.unwrap_or_else(|_| Err("the crate panicked".to_string())) {
+            Ok(Outcome::Ended(number, placed)) => {
+                self.endings[number as usize] += 1;
+                self.places += placed as u64;
+            }
+            Ok(Outcome::Date) => self.dates += 1,
+            Ok(Outcome::Depth) => self.depths += 1,
+            Err(difference) => self.differs(family, file, difference),
+        }
+    }
+
+    fn compare(&mut self, file: &[u8]) -> Result<Outcome, String> {
+        let got = ours::transcribe(file, &mut self.scratch, &mut self.tape, CAP);
+        let tape = self.tape.get(..got.held).ok_or("more is held than lent")?;
+        let seeks = Cell::new(0);
+        let mut reader = Watched::new(file, &seeks);
+        let mut at = 0;
+        for _ in 0..CAP {
+            match reader.next() {
+                Answer::Event(event) => {
+                    let (item, next) = self::step(tape, at, &got)?;
+                    if !item.is(&event) {
+                        return Err(format!("event {item:?}, the crate's {event:?}"));
+                    }
+                    self.events += 1;
+                    at = next;
+                }
+                Answer::Date => match self::step(tape, at, &got)? {
+                    (tape::Item::Date(_), _) => return Ok(Outcome::Date),
+                    (item, _) => return Err(format!("event {item:?}, the crate's a date")),
+                },
+                Answer::Depth => return ends(&got, at, 15, None).map(|_| Outcome::Depth),
+                Answer::End => return ends(&got, at, ours::ENDED, Some(0)),
+                Answer::Refused(number, place) => return ends(&got, at, number.into(), place),
+                Answer::Unforeseen(what) => return Err(format!("the crate: {what}")),
+            }
+        }
+        ends(&got, at, ours::STOPPED, Some(0))
+    }
+
+    fn differs(&mut self, family: &str, file: &[u8], difference: String) {
+        self.differences += 1;
+        if self.differences <= SHOWN as u64 {
+            println!("difference in {family}: {difference}\n  {}", hex(file));
+        }
+        let smaller = |(other, _): &(Vec<u8>, String)| file.len() < other.len();
+        if self.smallest.as_ref().is_none_or(smaller) {
+            self.smallest = Some((file.to_vec(), difference));
+        }
+    }
+
+    fn report(&self, start: Instant) -> ExitCode {
+        for (name, count) in &self.families {
+            println!("{count:>10} {name}");
+        }
+        println!("endings:");
+        for (number, count) in self
+            .endings
+            .iter()
+            .enumerate()
+            .filter(|(_, count)| **count > 0)
+        {
+            match number {
+                0 => println!("{count:>10} end"),
+                255 => println!("{count:>10} stopped after {CAP} events"),
+                _ => println!("{count:>10} refused {number}"),
+            }
+        }
+        println!("{:>10} of these with a place that is compared", self.places);
+        println!(
+            "outside: {} at a date, {} at the 65th open container",
+            self.dates, self.depths
+        );
+        if let Some((file, difference)) = &self.smallest {
+            println!(
+                "smallest that differs, {} bytes: {difference}\n  {}",
+                file.len(),
+                hex(file)
+            );
+        }
+        println!(
+            "{} inputs, {} events, {} differences, {} s",
+            self.inputs,
+            self.events,
+            self.differences,
+            start.elapsed().as_secs()
+        );
+        ExitCode::from((self.differences > 0) as u8)
+    }
+}
+
+/// Our event at an offset, by the strict decoder here and by the proved step alike.
+fn step<'a>(
+    tape: &'a [u8],
+    at: usize,
+    got: &ours::Transcript,
+) -> Result<(tape::Item<'a>, usize), String> {
+    let found = tape::step(tape, at);
+    let proved = ours::tape_step(tape, at);
+    let Some((item, next)) = found else {
+        return Err(format!(
+            "no event on our tape at {at}, {got:?}, and the crate has one"
+        ));
+    };
+    let (number, length) = item.numbers();
+    if proved != Some((next, number, next - length, length)) {
+        return Err(format!("our step says {proved:?} of {item:?} at {at}"));
+    }
+    Ok((item, next))
+}
+
+/// Our ending must be this one, with nothing more on the tape.
+fn ends(
+    got: &ours::Transcript,
+    at: usize,
+    number: u32,
+    place: Option<u64>,
+) -> Result<Outcome, String> {
+    let right = got.held == at && got.ending == number && place.is_none_or(|p| p == got.place);
+    let refused = !matches!(number, ours::ENDED | ours::STOPPED);
+    match right {
+        true => Ok(Outcome::Ended(number as u8, refused && place.is_some())),
+        false => Err(format!(
+            "{got:?}, the crate's {number} at {place:?}, tape {at}"
+        )),
+    }
+}
+
+fn hex(bytes: &[u8]) -> String {
+    let most = bytes.len().min(2000);
+    let mut out: String = bytes[..most]
+        .iter()
+        .map(|byte| format!("{byte:02x}"))
+        .collect();
+    if most < bytes.len() {
+        out.push_str("..");
+    }
+    out
+}

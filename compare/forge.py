@@ -1,0 +1,185 @@
+#!/usr/bin/env python3
+"""States and records that no reader gave: makes them from a seed, predicts the answers with model.py, and compares.
+
+    forge.py --seed 1 --count 20000 PROGRAM ..   asks the program (words may start it), compares, counts
+    forge.py --sample STDIN STDOUT               writes a sample of 300 lines and the predicted answers
+
+README.md has the format of the lines."""
+import argparse
+import collections
+import random
+import subprocess
+import sys
+
+import model
+from generator import read_families
+
+FAMILIES = ["tree", "graphs", "shared", "recursive", "depth", "distinct", "offsets", "rooms", "lengths", "scalars", "utf16", "worked"]
+KINDS = ["data", "text"]  # 0 and 1; any other number is another event
+FIELD_BITS = [1, 32, 8, 8, 32, 32, 64, 64]
+HELD = [0, 1, 2, 63, 64, 65, 1 << 32, (1 << 64) - 1]
+
+
+def drawn_file(rng):
+    made = read_families.FAMILIES[rng.choice(FAMILIES)](rng)
+    return made if isinstance(made, bytes) else bytes(made)
+
+
+def real_state(rng, file):
+    """A state that a fresh reader comes to on this file."""
+    state = model.FRESH
+    for _ in range(rng.choice([0, 1, 1, 2, 3, 5, 8, 20, 64, 70, 200])):
+        _, after = model.step(file, state)
+        if after == model.ENDED and rng.random() < 0.9:
+            break
+        state = after
+    return state
+
+
+def near(rng, value, bits):
+    """A number near another, or an extreme one."""
+    top = (1 << bits) - 1
+    choice = rng.choice([value + 1, value - 1, 0, 1, top, top - 1, 1 << (bits - 1), rng.getrandbits(bits), value ^ 1 << rng.randrange(bits)])
+    return min(max(choice, 0), top)
+
+
+def forged_frame(rng, frame):
+    frame = list(frame)
+    at = rng.randrange(3)
+    frame[at] = near(rng, frame[at], 32) if rng.random() < 0.7 else rng.randrange(6)
+    return tuple(frame)
+
+
+def forged_state(rng, state):
+    """One or more fields changed: any of them, or a frame."""
+    fields, frames = list(state[:8]), list(state[8])
+    for _ in range(rng.choice([1, 1, 1, 2, 3])):
+        pick = rng.random()
+        if pick < 0.45:
+            at = rng.randrange(8)
+            fields[at] = near(rng, fields[at], FIELD_BITS[at])
+        elif pick < 0.6:
+            fields[7] = rng.choice(HELD)
+        elif pick < 0.9:
+            inner = min(max(fields[7] - 1, 0), 63)
+            frames[inner] = forged_frame(rng, frames[inner])
+        else:
+            at = rng.randrange(64)
+            frames[at] = forged_frame(rng, frames[at])
+    return tuple(fields) + (tuple(frames),)
+
+
+def other_file(rng, file):
+    """A file of the same length, or nearly: some bytes changed, or another file's, or a byte more or less."""
+    pick = rng.random()
+    if pick < 0.6 and file:
+        changed = bytearray(file)
+        for _ in range(rng.choice([1, 1, 2, 4])):
+            changed[rng.randrange(len(file))] = rng.choice([0, 1, 8, 15, 0xA1, 0xD1, 0xAF, 0xDF, 255, rng.randrange(256)])
+        return bytes(changed)
+    if pick < 0.85:
+        other = drawn_file(rng)
+        return (other + bytes(len(file)))[: len(file)]
+    return file + b"\0" if pick < 0.93 else file[:-1]
+
+
+def state_input(rng):
+    file = drawn_file(rng)
+    state = real_state(rng, file)
+    pick = rng.random()
+    if pick < 0.55:
+        state = forged_state(rng, state)
+    elif pick < 0.9:
+        file = other_file(rng, file)
+    return file, state
+
+
+def record_input(rng):
+    file = drawn_file(rng)
+    if rng.random() < 0.4:
+        file = other_file(rng, file)
+    markers = [at for at, byte in enumerate(file) if byte >> 4 in (4, 5, 6)]
+    offset = rng.choice(markers) if markers and rng.random() < 0.8 else near(rng, len(file) - 32 if len(file) > 32 else 8, rng.choice([8, 32, 64]))
+    kind = rng.choice([0, 1, 1, 1, rng.randrange(10)])
+    return file, rng.choice([0, 1, 2, 3, 4, 5, 6, 8, 12, 40, 300]), kind, offset
+
+
+def shown(state):
+    frames = list(state[8])
+    while frames and frames[-1] == model.NO_FRAME:
+        frames.pop()
+    return " ".join(map(str, state[:8])) + " " + "".join(f"{o}:{p}:{l}," for o, p, l in frames)
+
+
+def cases(seed, count):
+    """Each case is a line, its predicted answer, and what kind of answer that is."""
+    rng = random.Random(f"forged {seed}")
+    for at in range(count):
+        if at % 4 < 3:
+            file, state = state_input(rng)
+            line, after = model.step(file, state)
+            yield f"S {file.hex()} {shown(state)}", [line, f"state {shown(after)}"], line
+        else:
+            file, length, kind, offset = record_input(rng)
+            scratch = b"\xaa" * length
+            line, left, part = model.request(file, scratch, KINDS[kind] if kind < 2 else None, offset)
+            yield f"R {file.hex()} {length} {kind} {offset}", [line, model.with_bytes("data", left), model.with_bytes("data", part)], f"request {line}"
+
+
+def sort_of(line):
+    words = line.split()
+    if words[0] == "request":
+        return f"request {words[1]} {words[2]}" if words[1] == "refused" else "request length"
+    return f"refused {words[1]}" if words[0] == "refused" else words[2] if words[0] == "at" else words[0]
+
+
+def sample(stdin, stdout):
+    """300 lines, as even over the sorts of answers as can be."""
+    by_sort = collections.defaultdict(list)
+    for line, answer, said in cases("sample", 20000):
+        if len(line) < 1500:
+            by_sort[sort_of(said)].append((line, answer))
+    chosen = []
+    while len(chosen) < 300:
+        for sort in sorted(by_sort):
+            if by_sort[sort] and len(chosen) < 300:
+                chosen.append(by_sort[sort].pop(0))
+    with open(stdin, "w") as lines, open(stdout, "w") as answers:
+        for line, answer in chosen:
+            lines.write(line + "\n")
+            answers.write("\n".join(answer) + "\n")
+
+
+def compare(seed, count, program):
+    made = list(cases(seed, count))
+    text = "".join(line + "\n" for line, _, _ in made)
+    got = subprocess.run(program, input=text, capture_output=True, text=True).stdout.split("\n")
+    at, differing, sorts = 0, [], collections.Counter()
+    for line, answer, said in made:
+        ours = got[at : at + len(answer)]
+        at += len(answer)
+        sorts[sort_of(said)] += 1
+        if ours != answer:
+            differing.append((len(line), line, answer, ours))
+    extra = len(got) - at - 1
+    print(f"{len(made)} forged inputs, {len(differing)} differences" + (f", {extra} lines too many" if extra else ""))
+    print("  " + ", ".join(f"{sort}: {number}" for sort, number in sorted(sorts.items())))
+    for _, line, answer, ours in sorted(differing)[:3]:
+        print(f"{line}\n  model {answer}\n  ours  {ours}")
+    return 1 if differing or extra else 0
+
+
+def main():
+    parser = argparse.ArgumentParser()
+    parser.add_argument("--seed", default="1")
+    parser.add_argument("--count", type=int, default=20000)
+    parser.add_argument("--sample", action="store_true")
+    parser.add_argument("words", nargs="+")
+    given = parser.parse_args()
+    if given.sample:
+        sample(*given.words)
+        return
+    sys.exit(compare(given.seed, given.count, given.words))
+
+
+main()

@@ -1,0 +1,265 @@
+"""Document 01's reader rules as a function of a file and a state, for states and records that no reader gave.
+
+Written from document 01 ("Reader rules", "Refusal numbers") and the project's decisions on what it leaves open. It shares
+nothing with the proved code. A state is a tuple:
+
+    (fresh, length, offsets, refs, count, table, place, held, frames)   frames: 64 triples (object, position, length)
+"""
+import struct
+
+MAX_LENGTH = 2_147_483_648
+MAX_OPEN = 64
+SIZES = (1, 2, 3, 4, 8)
+NO_FRAME = (0, 0, 0)
+FRESH = (1, 0, 0, 0, 0, 0, 0, 0, (NO_FRAME,) * MAX_OPEN)
+ENDED = (0,) + FRESH[1:]
+
+
+class Refused(Exception):
+    """A refusal with document 01's number and its place. The state after it is ENDED unless `keeps` says otherwise."""
+
+    def __init__(self, number, place, keeps=False):
+        self.number, self.place, self.keeps = number, place, keeps
+
+
+class Wrong(Exception):
+    """The state or the record isn't one that this file gives: 17."""
+
+
+def number_at(file, at, width):
+    """The big-endian number at an offset, or None where it isn't all within the file."""
+    if at + width > len(file):
+        return None
+    return int.from_bytes(file[at : at + width], "big")
+
+
+def widened(bits):
+    """The 64 bits of a 32-bit real: numbers exactly; of a NaN the sign kept, quiet, the fraction shifted by 29."""
+    if bits & 0x7F800000 == 0x7F800000 and bits & 0x7FFFFF:
+        return (bits >> 31) << 63 | 0x7FF8 << 48 | (bits & 0x7FFFFF) << 29
+    return struct.unpack(">Q", struct.pack(">d", struct.unpack(">f", bits.to_bytes(4, "big"))[0]))[0]
+
+
+def utf16_text(content):
+    """The text of UTF-16 in UTF-8, or None at a surrogate that stands alone."""
+    try:
+        return content.decode("utf-16-be").encode()
+    except UnicodeDecodeError:
+        return None
+
+
+def head(file, offset):
+    """The length that a head gives and where the content begins: the low nibble, or if it is 15, the next byte's low two bits
+    say 1, 2, 4 or 8 bytes of length. A head that runs past the file's end is 2."""
+    low = file[offset] & 15
+    if low != 15:
+        return low, offset + 1
+    size = number_at(file, offset + 1, 1)
+    if size is None:
+        raise Refused(2, offset)
+    width = 1 << (size & 3)
+    length = number_at(file, offset + 2, width)
+    if length is None:
+        raise Refused(2, offset)
+    return length, offset + 2 + width
+
+
+def room(file, offset, size):
+    """Room is measured from the object's own offset: offset + content bytes must be at most T, else 6."""
+    if offset + size > len(file) - 32:
+        raise Refused(6, offset)
+
+
+def whole(file, offset, at, width):
+    """A number of an object's content; past the file's end is 2."""
+    number = number_at(file, at, width)
+    if number is None:
+        raise Refused(2, offset)
+    return number
+
+
+def object_at(file, refs, offset):
+    """What stands at an offset below T: ("scalar", line), ("data", bytes), ("text", bytes, wide) or (kind, length, start)."""
+    marker = file[offset]
+    high, low = marker >> 4, marker & 15
+    if marker == 0x00:
+        raise Refused(8, offset)
+    if marker in (0x08, 0x09):
+        return "scalar", "true" if marker == 0x09 else "false"
+    if marker == 0x0F:
+        raise Refused(9, offset)
+    if marker in (0x10, 0x11, 0x12):
+        return "scalar", f"int {whole(file, offset, offset + 1, 1 << low)}"
+    if marker == 0x13:
+        number = whole(file, offset, offset + 1, 8)
+        return "scalar", f"int {number - (1 << 64) if number >> 63 else number}"
+    if marker == 0x14:
+        number = whole(file, offset, offset + 1, 16)
+        if number >> 64:
+            raise Refused(11, offset)
+        return "scalar", f"int {number}"
+    if marker == 0x22:
+        return "scalar", f"real {widened(whole(file, offset, offset + 1, 4)):016x}"
+    if marker == 0x23:
+        return "scalar", f"real {whole(file, offset, offset + 1, 8):016x}"
+    if marker == 0x33:
+        return "scalar", f"date {whole(file, offset, offset + 1, 8):016x}"
+    if high in (4, 5, 6):
+        length, start = head(file, offset)
+        size = length * 2 if high == 6 else length
+        room(file, offset, size)
+        content = file[start : start + size]
+        if len(content) < size:
+            raise Refused(2, offset)
+        if high == 4:
+            return "data", content
+        if high == 5:
+            try:
+                content.decode("utf-8")
+            except UnicodeDecodeError:
+                raise Refused(12, offset)
+            return "text", content, False
+        text = utf16_text(content)
+        if text is None:
+            raise Refused(13, offset)
+        return "text", text, True
+    if 0x80 <= marker <= 0x87:
+        return "scalar", f"uid {whole(file, offset, offset + 1, low + 1)}"
+    if high == 0xA:
+        length, start = head(file, offset)
+        room(file, offset, length * refs)
+        if start + length * refs > len(file):
+            raise Refused(2, offset)
+        return "array", length, start
+    if high == 0xD:
+        length, start = head(file, offset)
+        room(file, offset, length * refs)
+        if start + length * refs > len(file):
+            raise Refused(2, offset)
+        if start + 2 * length * refs > len(file):
+            raise Refused(2, offset)
+        room(file, offset, 2 * length * refs)
+        return "dict", length, start
+    raise Refused(10, offset)
+
+
+def with_bytes(word, content):
+    return f"{word} {len(content)}" + (f" {content.hex()}" if content else "")
+
+
+def trailer(file):
+    """The layout and the root: (offsets, refs, count, table, root)."""
+    if len(file) < 8:
+        raise Refused(2, 0, keeps=True)
+    if file[:8] != b"bplist00":
+        raise Refused(3, 0, keeps=True)
+    top = len(file) - 32
+    if top < 0:
+        raise Refused(2, 0, keeps=True)
+    offsets, refs = file[top + 6], file[top + 7]
+    if offsets not in SIZES:
+        raise Refused(4, top, keeps=True)
+    if refs not in SIZES:
+        raise Refused(5, top, keeps=refs == 0)
+    count, root, table = (number_at(file, top + at, 8) for at in (8, 16, 24))
+    if table + count * offsets > top:
+        raise Refused(6, table)
+    return offsets, refs, count, table, root
+
+
+def fetch(file, state, object_number):
+    """An object that a reference names: the answer (offset, line) and the state after it."""
+    fresh, length, offsets, refs, count, table, place, held, frames = state
+    if object_number >= count:
+        raise Refused(7, place)
+    offset = number_at(file, table + object_number * offsets, offsets)
+    if offset is None:
+        raise Wrong
+    if offset >= len(file) - 32:
+        raise Refused(6, place)
+    found = object_at(file, refs, offset)
+    frames = list(frames)
+    if held:
+        inner = frames[held - 1]
+        frames[held - 1] = (inner[0], inner[1] + 1, inner[2])
+    if found[0] in ("array", "dict"):
+        if any(frame[0] == object_number for frame in frames[:held]):
+            raise Refused(14, offset)
+        if held >= MAX_OPEN:
+            raise Refused(15, offset)
+        frames[held] = (object_number, 0, found[1])
+        return (offset, f"{found[0]} {found[1]}"), state[:6] + (offset, held + 1, tuple(frames))
+    line = found[1] if found[0] == "scalar" else with_bytes("data" if found[0] == "data" else "str", found[1])
+    return (offset, line), (state[:6] + (offset, held, tuple(frames)) if held else ENDED)
+
+
+def go_on(file, state):
+    """A call with an open container: what is due in the innermost one."""
+    fresh, length, offsets, refs, count, table, place, held, frames = state
+    if length != len(file) or held > MAX_OPEN or offsets not in SIZES or refs not in SIZES:
+        raise Wrong
+    number, position, claimed = frames[held - 1]
+    if number >= count:
+        raise Wrong
+    offset = number_at(file, table + number * offsets, offsets)
+    if offset is None or offset >= len(file) - 32 or file[offset] >> 4 not in (0xA, 0xD):
+        raise Wrong
+    try:
+        found, start = head(file, offset)
+    except Refused:
+        raise Wrong
+    references = found if file[offset] >> 4 == 0xA else 2 * found
+    if found != claimed or position > references:
+        raise Wrong
+    if position == references:
+        if held == 1:
+            return (offset, "close"), ENDED
+        frames = frames[: held - 1] + (NO_FRAME,) + frames[held:]
+        return (offset, "close"), state[:7] + (held - 1, frames)
+    at = position if references == found else position // 2 + position % 2 * found
+    reference = number_at(file, start + at * refs, refs)
+    if reference is None:
+        raise Wrong
+    return fetch(file, state, reference)
+
+
+def step(file, state):
+    """One call: the answer's line and the state after it."""
+    fresh, held = state[0], state[7]
+    if not fresh and not held:
+        return "end", state
+    try:
+        if len(file) > MAX_LENGTH:
+            raise Refused(1, 0, keeps=True)
+        if not fresh:
+            (offset, line), after = go_on(file, state)
+        else:
+            offsets, refs, count, table, root = trailer(file)
+            laid = (0, len(file), offsets, refs, count, table, table, 0, (NO_FRAME,) * MAX_OPEN)
+            (offset, line), after = fetch(file, laid, root)
+        return f"at {offset} {line}", after
+    except Refused as refusal:
+        return f"refused {refusal.number} at {refusal.place}", state if refusal.keeps else ENDED
+    except Wrong:
+        return "refused 17 at 0", state
+
+
+def request(file, scratch, kind, offset):
+    """The two calls of a text request: (the first's line, the scratch afterwards, the second's part)."""
+    refused = lambda number, place: (f"refused {number} at {place}", scratch, b"")
+    if len(file) > MAX_LENGTH:
+        return refused(1, 0)
+    if kind not in ("data", "text") or offset >= len(file) - 32:
+        return refused(17, 0)
+    try:
+        found = object_at(file, 1, offset)
+    except Refused:
+        return refused(17, 0)
+    if found[0] != kind:
+        return refused(17, 0)
+    if kind == "data" or not found[2]:
+        return f"length {len(found[1])}", scratch, found[1]
+    text = found[1]
+    if len(scratch) < len(text):
+        return refused(16, offset)
+    return f"length {len(text)}", text + scratch[len(text) :], text

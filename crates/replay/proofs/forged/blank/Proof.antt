@@ -1,0 +1,49 @@
+-- `blank` keeps the length.
+use mathlib.Core.Path.{_≡_}
+use Prim.Native.Nat.{_-_, _≤_}
+use native.Mathlib.Omega.{arith}
+use borrow.Author.Needs.{needs}
+use lib.ListN.{length}
+use Rattle.replay.proofs.forged.blank.Statement.{statement}
+use Rattle.replay.proofs.forged.blank.Tie as tie
+
+abbrev Inv-loop : tie.InvT-loop
+Inv-loop scratch₀ i₀ scratch i = length scratch ≡ length scratch₀
+
+abbrev μ-loop : tie.MeasureT-loop
+μ-loop scratch₀ i₀ scratch i = length scratch₀ - i
+
+loop-holds : tie.Need-loop-holds Inv-loop μ-loop
+loop-holds c = search needs
+
+slice-write-scratch : tie.Need-slice-write-scratch Inv-loop μ-loop
+slice-write-scratch c = search needs
+
+add-i : tie.Need-add-i Inv-loop μ-loop
+add-i c = search needs
+
+loop-less : tie.Need-loop-less Inv-loop μ-loop
+loop-less c = search needs
+
+loop-again : tie.Need-loop-again Inv-loop μ-loop
+loop-again c = search needs
+
+same-length : tie.Need-same-length Inv-loop μ-loop
+same-length c = search needs
+
+returns : tie.Need-returns Inv-loop μ-loop
+returns c = search needs
+
+pub blank-spec : {M : Type 1} → statement M
+blank-spec =
+    tie.close
+    (tie.spec
+    Inv-loop
+    μ-loop
+    loop-holds
+    slice-write-scratch
+    add-i
+    loop-less
+    loop-again
+    same-length
+    returns)

@@ -1,0 +1,264 @@
+// States and records that no reader gave: one call on each, and all that it answers and leaves. compare/README.md has the format.
+use event::Event;
+use event::Length;
+use hexlines::hex::decode;
+use hexlines::hex::least;
+use hexlines::line::next;
+use libc::STDOUT_FILENO;
+use reader::answer::Answer;
+use reader::answer::Record;
+use reader::request::TextLength;
+use reader::request::text_length;
+use reader::request::text_part;
+use reader::state::Frame;
+use reader::state::Reader;
+use say::number_of;
+use say::say_answer;
+use say::say_refusal;
+ghost use Prim.Native.Nat.{_≤_};
+ghost use lib.ListN.{length};
+
+// `S FILE ..` is a state, any other capital a record.
+pub fn forged(line: &[u8], file: &mut [u8], scratch: &mut [u8], out: &mut [u8]) {
+    let start = after(line, 0);
+    let end = next(line, start, b' ');
+    let n = decode(&line[start..end], file);
+    let rest = after(line, end);
+    if is_state(line) {
+        say_step(&file[..n], scratch, out, state_of(line, rest));
+    } else {
+        say_request(&file[..n], scratch, out, line, rest);
+    }
+}
+
+fn is_state(line: &[u8]) -> bool {
+    if line.len() == 0 {
+        return false;
+    }
+    line[0] == b'S'
+}
+
+// The place after the next separator: a space, a comma or a colon.
+fn after(s: &[u8], from: usize) -> usize
+    ensures { λ r. ⌜ r ≤ length (now (s .entry)) ⌝ }
+{
+    let mut i = from;
+    while i < s.len() {
+        let b = s[i];
+        i += 1;
+        if b == b' ' {
+            return i;
+        }
+        if b == b',' {
+            return i;
+        }
+        if b == b':' {
+            return i;
+        }
+    }
+    s.len()
+}
+
+// The decimal number that stands at a place; 0 where none does. It stays at the top rather than pass it.
+fn number(s: &[u8], from: usize) -> u64 {
+    let mut n: u64 = 0;
+    let mut i = from;
+    while i < s.len() {
+        let digit = s[i];
+        if digit < b'0' {
+            return n;
+        }
+        if b'9' < digit {
+            return n;
+        }
+        n = with_digit(n, (digit - b'0') as u64);
+        i += 1;
+    }
+    n
+}
+
+fn with_digit(n: u64, digit: u64) -> u64 {
+    if 9 < digit {
+        return n;
+    }
+    if n <= (0xffff_ffff_ffff_ffff - digit) / 10 {
+        return n * 10 + digit;
+    }
+    0xffff_ffff_ffff_ffff
+}
+
+fn word(s: &[u8], at: usize) -> u32 {
+    (number(s, at) % 0x1_0000_0000) as u32
+}
+
+fn byte(s: &[u8], at: usize) -> u8 {
+    (number(s, at) % 0x100) as u8
+}
+
+// The state from its first field on: FRESH LENGTH OFFSETS REFS COUNT TABLE PLACE HELD, then the frames.
+fn state_of(s: &[u8], fresh: usize) -> Reader {
+    let length = after(s, fresh);
+    let offsets = after(s, length);
+    let refs = after(s, offsets);
+    let count = after(s, refs);
+    let table = after(s, count);
+    let place = after(s, table);
+    let held = after(s, place);
+    let mut reader = Reader {
+        fresh: number(s, fresh) == 1,
+        length: word(s, length),
+        offsets: byte(s, offsets),
+        refs: byte(s, refs),
+        count: word(s, count),
+        table: word(s, table),
+        place: number(s, place),
+        held: number(s, held) as usize,
+        frames: [Frame::NONE; Reader::MAX_OPEN],
+    };
+    let mut at = after(s, held);
+    let mut i: usize = 0;
+    while i < Reader::MAX_OPEN {
+        let position = after(s, at);
+        let length = after(s, position);
+        reader.frames[i] = Frame {
+            object: word(s, at),
+            position: word(s, position),
+            length: word(s, length),
+        };
+        at = after(s, length);
+        i += 1;
+    }
+    reader
+}
+
+// One call, its answer with the record's offset, and the state afterwards.
+fn say_step(file: &[u8], scratch: &mut [u8], out: &mut [u8], reader: Reader) {
+    let stepped = reader.next(file);
+    let answer = stepped.answer;
+    say_offset(answer);
+    say_answer(file, scratch, out, answer);
+    let after = stepped.reader;
+    say_state(after);
+}
+
+fn say_offset(answer: Answer) {
+    let Answer::Handed(handed) = answer else {
+        return;
+    };
+    io::write_all(STDOUT_FILENO, b"at ");
+    say_number(handed.offset, b" ");
+}
+
+fn say_number(n: u64, behind: &[u8]) {
+    io::print_decimal(STDOUT_FILENO, n);
+    io::write_all(STDOUT_FILENO, behind);
+}
+
+fn say_state(reader: Reader) {
+    io::write_all(STDOUT_FILENO, b"state ");
+    if reader.fresh {
+        say_number(1, b" ");
+    } else {
+        say_number(0, b" ");
+    }
+    say_number(reader.length as u64, b" ");
+    say_number(reader.offsets as u64, b" ");
+    say_number(reader.refs as u64, b" ");
+    say_number(reader.count as u64, b" ");
+    say_number(reader.table as u64, b" ");
+    say_number(reader.place, b" ");
+    say_number(reader.held as u64, b" ");
+    say_frames(reader);
+    io::write_all(STDOUT_FILENO, b"\n");
+}
+
+// The frames that are not all zero, and those before them.
+fn say_frames(reader: Reader) {
+    let shown = shown_frames(reader);
+    let mut i: usize = 0;
+    while i < shown {
+        let frame = reader.frames[i];
+        say_number(frame.object as u64, b":");
+        say_number(frame.position as u64, b":");
+        say_number(frame.length as u64, b",");
+        i += 1;
+    }
+}
+
+fn shown_frames(reader: Reader) -> usize
+    ensures { λ r. ⌜ r ≤ 64 ⌝ }
+{
+    let mut n: usize = Reader::MAX_OPEN;
+    while 0 < n {
+        let frame = reader.frames[n - 1];
+        if frame.object != 0 {
+            return n;
+        }
+        if frame.position != 0 {
+            return n;
+        }
+        if frame.length != 0 {
+            return n;
+        }
+        n -= 1;
+    }
+    0
+}
+
+// A record's fields are the scratch's length, the kind and the offset. The answer, the scratch afterwards, and the part.
+fn say_request(file: &[u8], scratch: &mut [u8], out: &mut [u8], s: &[u8], length: usize) {
+    let kind = after(s, length);
+    let offset = after(s, kind);
+    let handed = Record {
+        event: event_of(number(s, kind)),
+        offset: number(s, offset),
+    };
+    blank(scratch);
+    let room = least(number(s, length) as usize, scratch.len());
+    ask(file, &mut scratch[..room], out, handed);
+}
+
+fn ask(file: &[u8], scratch: &mut [u8], out: &mut [u8], handed: Record) {
+    let length = text_length(file, scratch, handed);
+    say_length(out, length);
+    say_bytes(out, scratch);
+    say_bytes(out, text_part(file, scratch, handed));
+}
+
+fn say_length(out: &mut [u8], length: TextLength) {
+    match length {
+        TextLength::Length(n) => {
+            io::write_all(STDOUT_FILENO, b"length ");
+            say_number(n, b"\n");
+        }
+        TextLength::Refused(refusal, place) => say_refusal(out, number_of(refusal), place),
+    }
+}
+
+fn say_bytes(out: &mut [u8], bytes: &[u8]) {
+    let put = line::put::put_event(out, 0, Event::Data, bytes);
+    say::say_put(out, put);
+}
+
+fn blank(scratch: &mut [u8]) {
+    let mut i: usize = 0;
+    while i < scratch.len() {
+        scratch[i] = 0xaa;
+        i += 1;
+    }
+}
+
+fn event_of(kind: u64) -> Event {
+    match kind {
+        0 => Event::Data,
+        1 => Event::String,
+        2 => Event::EndCollection,
+        3 => Event::Boolean(true),
+        4 => Event::StartArray(Length::Given(3)),
+        5 => Event::StartDictionary(Length::Given(3)),
+        6 => Event::Integer(event::Integer::Unsigned(1)),
+        7 => Event::Date(0),
+        8 => Event::Nan(0xffff_ffff_ffff_ffff),
+        _ => Event::Uid(7),
+    }
+}
