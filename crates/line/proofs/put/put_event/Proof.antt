@@ -1,5 +1,5 @@
 -- `put_event` puts the line of what the event means: each kind is one row.
-use mathlib.Core.Path.{ap, _∙_}
+use mathlib.Core.Path.{refl, ap, _∙_}
 use lib.ListN.{length}
 use Rattle.event.specs.Meaning.{meaningOf}
 use Rattle.line.specs.Line.{lineOf, truth}
@@ -13,13 +13,13 @@ enum-known-event : tie.Need-enum-known-event
 enum-known-event c = search needs
 
 slice-aggregate-put-row : tie.Need-slice-aggregate-put-row
-slice-aggregate-put-row c = search needs
+slice-aggregate-put-row c = refl
 
 given-requires : tie.Need-given-requires
 given-requires c κs = search needs
 
 slice-aggregate-put-row-2 : tie.Need-slice-aggregate-put-row-2
-slice-aggregate-put-row-2 c = search needs
+slice-aggregate-put-row-2 c = refl
 
 put-row-requires : tie.Need-put-row-requires
 put-row-requires c κs = search needs
@@ -28,13 +28,13 @@ enum-known-event-2 : tie.Need-enum-known-event-2
 enum-known-event-2 c = search needs
 
 slice-aggregate-put-row-3 : tie.Need-slice-aggregate-put-row-3
-slice-aggregate-put-row-3 c = search needs
+slice-aggregate-put-row-3 c = refl
 
 given-requires-2 : tie.Need-given-requires-2
 given-requires-2 c κs = search needs
 
 slice-aggregate-put-row-4 : tie.Need-slice-aggregate-put-row-4
-slice-aggregate-put-row-4 c = search needs
+slice-aggregate-put-row-4 c = refl
 
 put-row-requires-2 : tie.Need-put-row-requires-2
 put-row-requires-2 c κs = search needs
@@ -43,10 +43,10 @@ enum-told : tie.Need-enum-told
 enum-told c = search needs
 
 slice-aggregate-put-row-5 : tie.Need-slice-aggregate-put-row-5
-slice-aggregate-put-row-5 c = search needs
+slice-aggregate-put-row-5 c = refl
 
 slice-aggregate-put-row-6 : tie.Need-slice-aggregate-put-row-6
-slice-aggregate-put-row-6 c = search needs
+slice-aggregate-put-row-6 c = refl
 
 put-row-requires-3 : tie.Need-put-row-requires-3
 put-row-requires-3 c κs = search needs
@@ -55,19 +55,19 @@ enum-known-event-3 : tie.Need-enum-known-event-3
 enum-known-event-3 c = search needs
 
 slice-aggregate-put-row-7 : tie.Need-slice-aggregate-put-row-7
-slice-aggregate-put-row-7 c = search needs
+slice-aggregate-put-row-7 c = refl
 
 slice-aggregate-put-row-8 : tie.Need-slice-aggregate-put-row-8
-slice-aggregate-put-row-8 c = search needs
+slice-aggregate-put-row-8 c = refl
 
 put-row-requires-4 : tie.Need-put-row-requires-4
 put-row-requires-4 c κs = search needs
 
 slice-aggregate-put-row-9 : tie.Need-slice-aggregate-put-row-9
-slice-aggregate-put-row-9 c = search needs
+slice-aggregate-put-row-9 c = refl
 
 slice-aggregate-put-row-10 : tie.Need-slice-aggregate-put-row-10
-slice-aggregate-put-row-10 c = search needs
+slice-aggregate-put-row-10 c = refl
 
 put-row-requires-5 : tie.Need-put-row-requires-5
 put-row-requires-5 c κs = search needs
@@ -76,7 +76,7 @@ enum-told-2 : tie.Need-enum-told-2
 enum-told-2 c = search needs
 
 slice-aggregate-put-row-11 : tie.Need-slice-aggregate-put-row-11
-slice-aggregate-put-row-11 c = search needs
+slice-aggregate-put-row-11 c = refl
 
 put-row-requires-6 : tie.Need-put-row-requires-6
 put-row-requires-6 c κs = search needs
@@ -85,7 +85,7 @@ enum-known-event-4 : tie.Need-enum-known-event-4
 enum-known-event-4 c = search needs
 
 slice-aggregate-put-bits : tie.Need-slice-aggregate-put-bits
-slice-aggregate-put-bits c = search needs
+slice-aggregate-put-bits c = refl
 
 put-bits-requires : tie.Need-put-bits-requires
 put-bits-requires c κs = search needs
@@ -94,13 +94,13 @@ enum-known-event-5 : tie.Need-enum-known-event-5
 enum-known-event-5 c = search needs
 
 slice-aggregate-put-row-12 : tie.Need-slice-aggregate-put-row-12
-slice-aggregate-put-row-12 c = search needs
+slice-aggregate-put-row-12 c = refl
 
 value-of-requires : tie.Need-value-of-requires
 value-of-requires c κs = search needs
 
 slice-aggregate-put-row-13 : tie.Need-slice-aggregate-put-row-13
-slice-aggregate-put-row-13 c = search needs
+slice-aggregate-put-row-13 c = refl
 
 put-row-requires-7 : tie.Need-put-row-requires-7
 put-row-requires-7 c κs = search needs
@@ -109,7 +109,7 @@ enum-known-event-6 : tie.Need-enum-known-event-6
 enum-known-event-6 c = search needs
 
 slice-aggregate-put-bits-2 : tie.Need-slice-aggregate-put-bits-2
-slice-aggregate-put-bits-2 c = search needs
+slice-aggregate-put-bits-2 c = refl
 
 float-bits-requires : tie.Need-float-bits-requires
 float-bits-requires c κs = search needs
@@ -121,7 +121,7 @@ enum-known-event-7 : tie.Need-enum-known-event-7
 enum-known-event-7 c = search needs
 
 slice-aggregate-put-bits-3 : tie.Need-slice-aggregate-put-bits-3
-slice-aggregate-put-bits-3 c = search needs
+slice-aggregate-put-bits-3 c = refl
 
 put-bits-requires-3 : tie.Need-put-bits-requires-3
 put-bits-requires-3 c κs = search needs
@@ -130,7 +130,7 @@ enum-told-3 : tie.Need-enum-told-3
 enum-told-3 c = search needs
 
 slice-aggregate-put-row-14 : tie.Need-slice-aggregate-put-row-14
-slice-aggregate-put-row-14 c = search needs
+slice-aggregate-put-row-14 c = refl
 
 put-row-requires-8 : tie.Need-put-row-requires-8
 put-row-requires-8 c κs = search needs
@@ -139,10 +139,10 @@ enum-known-event-8 : tie.Need-enum-known-event-8
 enum-known-event-8 c = search needs
 
 slice-aggregate-put-row-15 : tie.Need-slice-aggregate-put-row-15
-slice-aggregate-put-row-15 c = search needs
+slice-aggregate-put-row-15 c = refl
 
 slice-aggregate-put-row-16 : tie.Need-slice-aggregate-put-row-16
-slice-aggregate-put-row-16 c = search needs
+slice-aggregate-put-row-16 c = refl
 
 put-row-requires-9 : tie.Need-put-row-requires-9
 put-row-requires-9 c κs = search needs

@@ -1,5 +1,5 @@
 -- `put_fixed` puts the word.
-
+use mathlib.Core.Path.{refl}
 use Rattle.line.specs.Piece.{numeralOf}
 use Rattle.line.specs.Put.{fixedLine}
 use borrow.Author.Needs.{needs}
@@ -10,10 +10,10 @@ enum-told : tie.Need-enum-told
 enum-told c = search needs
 
 slice-aggregate-put-row : tie.Need-slice-aggregate-put-row
-slice-aggregate-put-row c = search needs
+slice-aggregate-put-row c = refl
 
 slice-aggregate-put-row-2 : tie.Need-slice-aggregate-put-row-2
-slice-aggregate-put-row-2 c = search needs
+slice-aggregate-put-row-2 c = refl
 
 put-row-requires : tie.Need-put-row-requires
 put-row-requires c κs = search needs
@@ -22,10 +22,10 @@ enum-told-2 : tie.Need-enum-told-2
 enum-told-2 c = search needs
 
 slice-aggregate-put-row-3 : tie.Need-slice-aggregate-put-row-3
-slice-aggregate-put-row-3 c = search needs
+slice-aggregate-put-row-3 c = refl
 
 slice-aggregate-put-row-4 : tie.Need-slice-aggregate-put-row-4
-slice-aggregate-put-row-4 c = search needs
+slice-aggregate-put-row-4 c = refl
 
 put-row-requires-2 : tie.Need-put-row-requires-2
 put-row-requires-2 c κs = search needs
@@ -34,10 +34,10 @@ enum-told-3 : tie.Need-enum-told-3
 enum-told-3 c = search needs
 
 slice-aggregate-put-row-5 : tie.Need-slice-aggregate-put-row-5
-slice-aggregate-put-row-5 c = search needs
+slice-aggregate-put-row-5 c = refl
 
 slice-aggregate-put-row-6 : tie.Need-slice-aggregate-put-row-6
-slice-aggregate-put-row-6 c = search needs
+slice-aggregate-put-row-6 c = refl
 
 put-row-requires-3 : tie.Need-put-row-requires-3
 put-row-requires-3 c κs = search needs

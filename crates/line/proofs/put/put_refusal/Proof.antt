@@ -2,7 +2,7 @@
 
 use Rattle.line.specs.Line.{refusalLine, plus, word-at}
 use mathlib.Core.List.{[]}
-use mathlib.Core.Path.{_≡_, sym, _∙_}
+use mathlib.Core.Path.{_≡_, refl, sym, _∙_}
 use native.Mathlib.Omega.{arith}
 use lib.ListN.{length}
 use Rattle.line.specs.Line.{refusalLine, plus, word-at, tail}
@@ -27,7 +27,7 @@ has-room-requires : tie.Need-has-room-requires
 has-room-requires c κs = search needs
 
 slice-aggregate-write-bytes : tie.Need-slice-aggregate-write-bytes
-slice-aggregate-write-bytes c = search needs
+slice-aggregate-write-bytes c = refl
 
 write-bytes-requires : tie.Need-write-bytes-requires
 unfolding numeralOf spaceOf
@@ -38,10 +38,10 @@ unfolding numeralOf spaceOf
 write-numeral-requires c κs = omega (arith, c .before .before .before .before .before .before .before .has-room .ensures .yes (c .before .before .before .before .before .before .if1 .taken), length-refusal (c .before .before .before .before .before .before .before .before .before .before .before .args .number) (c .before .before .before .before .before .before .before .before .before .before .before .args .place), c .before .before .before .before .before .before .before .before .before .numeral-length .ensures .0, c .before .before .before .before .before .before .before .before .numeral-length2 .ensures .0, c .before .before .before .write-bytes .ensures .place, written-length (c .before .before .before .write-bytes .ensures))
 
 slice-aggregate-write-row : tie.Need-slice-aggregate-write-row
-slice-aggregate-write-row c = search needs
+slice-aggregate-write-row c = refl
 
 slice-aggregate-write-row-2 : tie.Need-slice-aggregate-write-row-2
-slice-aggregate-write-row-2 c = search needs
+slice-aggregate-write-row-2 c = refl
 
 write-row-requires : tie.Need-write-row-requires
 unfolding numeralOf spaceOf tail

@@ -1,5 +1,5 @@
 -- `write_row` writes the four pieces one behind the other.
-use mathlib.Core.Path.{_≡_, _∙_}
+use mathlib.Core.Path.{_≡_, refl, _∙_}
 use native.Mathlib.Omega.{arith}
 use lib.ListN.{length}
 use Rattle.line.specs.Line.{row, tail}
@@ -20,7 +20,7 @@ write-tail-requires : tie.Need-write-tail-requires
 write-tail-requires c κs = omega (arith, length-row (c .before .before .before .before .before .before .before .before .before .before .before .before .args .word .now) (numeralOf (c .before .before .before .before .before .before .before .before .before .before .before .before .args .number)) (c .before .before .before .before .before .before .before .before .before .before .before .before .args .bytes .now), c .before .before .before .before .before .before .before .write-bytes .ensures .place, c .before .before .before .write-numeral .ensures .place, written-length (c .before .before .before .before .before .before .before .write-bytes .ensures), written-length (c .before .before .before .write-numeral .ensures))
 
 slice-aggregate-write-bytes : tie.Need-slice-aggregate-write-bytes
-slice-aggregate-write-bytes c = search needs
+slice-aggregate-write-bytes c = refl
 
 write-bytes-requires-2 : tie.Need-write-bytes-requires-2
 write-bytes-requires-2 c κs = omega (arith, length-row (c .before .before .before .before .before .before .before .before .before .before .before .before .before .before .before .before .before .args .word .now) (numeralOf (c .before .before .before .before .before .before .before .before .before .before .before .before .before .before .before .before .before .args .number)) (c .before .before .before .before .before .before .before .before .before .before .before .before .before .before .before .before .before .args .bytes .now), c .before .before .before .before .before .before .before .before .before .before .before .before .write-bytes .ensures .place, c .before .before .before .before .before .before .before .before .write-numeral .ensures .place, c .before .before .before .before .write-tail .ensures .place, written-length (c .before .before .before .before .before .before .before .before .before .before .before .before .write-bytes .ensures), written-length (c .before .before .before .before .before .before .before .before .write-numeral .ensures), written-length (c .before .before .before .before .write-tail .ensures))
