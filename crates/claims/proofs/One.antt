@@ -14,6 +14,26 @@ use Rattle.transcribe.specs.SaidLaws.{endSaid-one}
 use Rattle.transcribe.specs.declared.Transcript.{Transcript}
 use Rattle.transcribe.proofs.transcribe.Kinds as transcribe-kinds
 use Rattle.transcribe.proofs.transcribe.Reads as transcribe-reads
+use Rattle.line.proofs.put.put_event.Kinds as put-event-kinds
+use Rattle.line.proofs.put.put_event.Reads as put-event-reads
+use Rattle.line.proofs.put.put_refusal.Kinds as put-refusal-kinds
+use Rattle.line.proofs.put.put_refusal.Reads as put-refusal-reads
+use Rattle.line.proofs.put.put_fixed.Kinds as put-fixed-kinds
+use Rattle.line.proofs.put.put_fixed.Reads as put-fixed-reads
+use Rattle.exports.proofs.text.zm_is_utf8.Kinds as zm-is-utf8-kinds
+use Rattle.exports.proofs.text.zm_is_utf8.Reads as zm-is-utf8-reads
+use Rattle.exports.proofs.text.zm_is_utf16.Kinds as zm-is-utf16-kinds
+use Rattle.exports.proofs.text.zm_is_utf16.Reads as zm-is-utf16-reads
+use Rattle.exports.proofs.text.zm_is_ascii.Kinds as zm-is-ascii-kinds
+use Rattle.exports.proofs.text.zm_is_ascii.Reads as zm-is-ascii-reads
+use Rattle.exports.proofs.text.zm_utf16_to_utf8.Kinds as zm-utf16-to-utf8-kinds
+use Rattle.exports.proofs.text.zm_utf16_to_utf8.Reads as zm-utf16-to-utf8-reads
+use Rattle.exports.proofs.text.zm_utf8_to_utf16.Kinds as zm-utf8-to-utf16-kinds
+use Rattle.exports.proofs.text.zm_utf8_to_utf16.Reads as zm-utf8-to-utf16-reads
+use Rattle.exports.proofs.tape_step.zm_tape_step.Kinds as zm-tape-step-kinds
+use Rattle.exports.proofs.tape_step.zm_tape_step.Reads as zm-tape-step-reads
+use Rattle.exports.proofs.transcript.zm_transcribe.Kinds as zm-transcribe-kinds
+use Rattle.exports.proofs.transcript.zm_transcribe.Reads as zm-transcribe-reads
 use Rattle.claims.proofs.itself.Kinds as itself-kinds
 use Rattle.claims.proofs.itself.Reads as itself-reads
 use Rattle.event.proofs.real.real_of.Kinds as real-of-kinds
@@ -207,6 +227,42 @@ transcribe-one κs a x y e f p q =
   where
     same-transcript : (x y : Transcript) → x .ending ≡ y .ending → x .held ≡ y .held → x ≡ y
     same-transcript x y d h = rw (d, h)
+
+put-event-one : One 2 put-event-kinds.ps put-event-kinds.r put-event-reads.Post (List ℕ) (λ κs e. now (e .0))
+put-event-one κs a x y e f p q = (p .0 ∙ sym (q .0), p .1 ∙ sym (q .1))
+
+put-refusal-one : One 1 put-refusal-kinds.ps put-refusal-kinds.r put-refusal-reads.Post (List ℕ) (λ κs e. now (e .0))
+put-refusal-one κs a x y e f p q = (p .0 ∙ sym (q .0), p .1 ∙ sym (q .1))
+
+put-fixed-one : One 1 put-fixed-kinds.ps put-fixed-kinds.r put-fixed-reads.Post (List ℕ) (λ κs e. now (e .0))
+put-fixed-one κs a x y e f p q = (p .0 ∙ sym (q .0), p .1 ∙ sym (q .1))
+
+zm-is-utf8-one : One 1 zm-is-utf8-kinds.ps zm-is-utf8-kinds.r zm-is-utf8-reads.Post (Unit {0}) (λ κs e. tt)
+zm-is-utf8-one κs a x y e f p q = (p ∙ sym q, refl)
+
+zm-is-utf16-one : One 1 zm-is-utf16-kinds.ps zm-is-utf16-kinds.r zm-is-utf16-reads.Post (Unit {0}) (λ κs e. tt)
+zm-is-utf16-one κs a x y e f p q = (p ∙ sym q, refl)
+
+zm-is-ascii-one : One 1 zm-is-ascii-kinds.ps zm-is-ascii-kinds.r zm-is-ascii-reads.Post (Unit {0}) (λ κs e. tt)
+zm-is-ascii-one κs a x y e f p q = (p ∙ sym q, refl)
+
+zm-utf16-to-utf8-one : One 2 zm-utf16-to-utf8-kinds.ps zm-utf16-to-utf8-kinds.r zm-utf16-to-utf8-reads.Post (List ℕ) (λ κs e. now (e .1 .0))
+zm-utf16-to-utf8-one κs a x y e f p q = (p .0 ∙ sym (q .0), p .1 ∙ sym (q .1))
+
+zm-utf8-to-utf16-one : One 2 zm-utf8-to-utf16-kinds.ps zm-utf8-to-utf16-kinds.r zm-utf8-to-utf16-reads.Post (List ℕ) (λ κs e. now (e .1 .0))
+zm-utf8-to-utf16-one κs a x y e f p q = (p .0 ∙ sym (q .0), p .1 ∙ sym (q .1))
+
+zm-tape-step-one : One 4 zm-tape-step-kinds.ps zm-tape-step-kinds.r zm-tape-step-reads.Post (record { value : ℕ; start : ℕ; length : ℕ }) (λ κs e. record { value = now (e .1 .1 .0); start = now (e .1 .1 .1 .0); length = now (e .1 .1 .1 .1 .0) })
+zm-tape-step-one κs a x y e f p q = (
+  p .0 ∙ sym (q .0),
+  rw (p .1 .0 ∙ sym (q .1 .0), p .1 .1 .0 ∙ sym (q .1 .1 .0), p .1 .1 .1 ∙ sym (q .1 .1 .1)),
+)
+
+zm-transcribe-one : One 5 zm-transcribe-kinds.ps zm-transcribe-kinds.r zm-transcribe-reads.Post (record { held : ℕ; place : ℕ; tape : List ℕ; scratch : List ℕ }) (λ κs e. record { held = now (e .1 .1 .1 .1 .0); place = now (e .1 .1 .1 .1 .1 .0); tape = now (e .1 .1 .0); scratch = now (e .1 .0) })
+zm-transcribe-one κs a x y e f p q = (
+  p .0 ∙ sym (q .0),
+  rw (p .1 .0 ∙ sym (q .1 .0), p .1 .1 .0 ∙ sym (q .1 .1 .0), p .1 .1 .1 .0 ∙ sym (q .1 .1 .1 .0), p .1 .1 .1 .1 ∙ sym (q .1 .1 .1 .1)),
+)
 
 -- and the smallest of them, which a must-fail edit weakens
 itself-one : One 0 itself-kinds.ps itself-kinds.r itself-reads.Post (Unit {0}) (λ κs e. tt)
