@@ -7,7 +7,7 @@ use contract.Lifetimes.{Lfts}
 use denote.Ref.{now}
 use denote.Triple.Clauses.{AtExit}
 use Rattle.object.specs.FoundLaws.{foundOf-one}
-use Rattle.reader.specs.SaidLaws.{stepSaid-one, textSaid-one}
+use Rattle.reader.specs.SaidLaws.{stepSaid-one, textSaid-one, look-one, trailer-one}
 use Rattle.tape.specs.AppendLaws.{said-one}
 use Rattle.transcribe.specs.Run.{Run}
 use Rattle.transcribe.specs.SaidLaws.{endSaid-one}
@@ -84,8 +84,20 @@ use Rattle.object.proofs.container.container_at.Kinds as container-at-kinds
 use Rattle.object.proofs.container.container_at.Reads as container-at-reads
 use Rattle.object.proofs.read.object_at.Kinds as object-at-kinds
 use Rattle.object.proofs.read.object_at.Reads as object-at-reads
+use Rattle.reader.proofs.answer.number_of.Kinds as number-of-kinds
+use Rattle.reader.proofs.answer.number_of.Reads as number-of-reads
 use Rattle.reader.proofs.layout.number_at.Kinds as number-at-kinds
 use Rattle.reader.proofs.layout.number_at.Reads as number-at-reads
+use Rattle.reader.proofs.layout.due_at.Kinds as due-at-kinds
+use Rattle.reader.proofs.layout.due_at.Reads as due-at-reads
+use Rattle.reader.proofs.lookup.look_up.Kinds as look-up-kinds
+use Rattle.reader.proofs.lookup.look_up.Reads as look-up-reads
+use Rattle.reader.proofs.lookup.start_of.Kinds as start-of-kinds
+use Rattle.reader.proofs.lookup.start_of.Reads as start-of-reads
+use Rattle.reader.proofs.state.is_open.Kinds as is-open-kinds
+use Rattle.reader.proofs.state.is_open.Reads as is-open-reads
+use Rattle.reader.proofs.trailer.trailer_of.Kinds as trailer-of-kinds
+use Rattle.reader.proofs.trailer.trailer_of.Reads as trailer-of-reads
 use Rattle.reader.proofs.state.Reader.max_open.Kinds as max-open-kinds
 use Rattle.reader.proofs.state.Reader.max_open.Reads as max-open-reads
 use Rattle.reader.proofs.state.Reader.max_length.Kinds as max-length-kinds
@@ -104,6 +116,8 @@ use Rattle.tape.proofs.step.step.Kinds as step-kinds
 use Rattle.tape.proofs.step.step.Reads as step-reads
 use Rattle.tape.proofs.append.append.Kinds as append-kinds
 use Rattle.tape.proofs.append.append.Reads as append-reads
+use Rattle.tape.proofs.append.put.Kinds as put-kinds
+use Rattle.tape.proofs.append.put.Reads as put-reads
 
 -- two answers to the same arguments that meet a contract are the same, and so is what is looked at in lent memory as the function returns
 abbrev pub One : (n : ℕ) (ps : List (PK n)) (r : RK n) → Out n ps r → (X : Type 0) → ((κs : Lfts n) → AtExit (endedOf n ps r) κs → X) → Type 0
@@ -189,8 +203,26 @@ container-at-one κs a x y e f p q = (p ∙ sym q, refl)
 object-at-one : One 1 object-at-kinds.ps object-at-kinds.r object-at-reads.Post (Unit {0}) (λ κs e. tt)
 object-at-one κs a x y e f p q = (foundOf-one x y (p ∙ sym q), refl)
 
+number-of-one : One 0 number-of-kinds.ps number-of-kinds.r number-of-reads.Post (Unit {0}) (λ κs e. tt)
+number-of-one κs a x y e f p q = (p ∙ sym q, refl)
+
 number-at-one : One 1 number-at-kinds.ps number-at-kinds.r number-at-reads.Post (Unit {0}) (λ κs e. tt)
 number-at-one κs a x y e f p q = (p ∙ sym q, refl)
+
+due-at-one : One 1 due-at-kinds.ps due-at-kinds.r due-at-reads.Post (Unit {0}) (λ κs e. tt)
+due-at-one κs a x y e f p q = (p ∙ sym q, refl)
+
+look-up-one : One 1 look-up-kinds.ps look-up-kinds.r look-up-reads.Post (Unit {0}) (λ κs e. tt)
+look-up-one κs a x y e f p q = (look-one x y (p .0 ∙ sym (q .0)) (p .1 ∙ sym (q .1)), refl)
+
+start-of-one : One 0 start-of-kinds.ps start-of-kinds.r start-of-reads.Post (Unit {0}) (λ κs e. tt)
+start-of-one κs a x y e f p q = (p ∙ sym q, refl)
+
+is-open-one : One 0 is-open-kinds.ps is-open-kinds.r is-open-reads.Post (Unit {0}) (λ κs e. tt)
+is-open-one κs a x y e f p q = (p ∙ sym q, refl)
+
+trailer-of-one : One 1 trailer-of-kinds.ps trailer-of-kinds.r trailer-of-reads.Post (Unit {0}) (λ κs e. tt)
+trailer-of-one κs a x y e f p q = (trailer-one x y (p ∙ sym q), refl)
 
 max-open-one : One 0 max-open-kinds.ps max-open-kinds.r max-open-reads.Post (Unit {0}) (λ κs e. tt)
 max-open-one κs a x y e f p q = (p ∙ sym q, refl)
@@ -218,7 +250,10 @@ step-one : One 1 step-kinds.ps step-kinds.r step-reads.Post (Unit {0}) (λ κs e
 step-one κs a x y e f p q = (p ∙ sym q, refl)
 
 append-one : One 2 append-kinds.ps append-kinds.r append-reads.Post (List ℕ) (λ κs e. now (e .0))
-append-one κs a x y e f p q = (said-one x y (p .0 ∙ sym (q .0)), p .1 ∙ sym (q .1))
+append-one κs a x y e f p q = (said-one x y (p .0 ∙ sym (q .0)), p .1 .0 ∙ sym (q .1 .0))
+
+put-one : One 2 put-kinds.ps put-kinds.r put-reads.Post (List ℕ) (λ κs e. now (e .0))
+put-one κs a x y e f p q = (said-one x y (p .0 ∙ sym (q .0)), p .1 ∙ sym (q .1))
 
 transcribe-one : One 3 transcribe-kinds.ps transcribe-kinds.r transcribe-reads.Post (record { tape : List ℕ; scratch : List ℕ }) (λ κs e. record { tape = now (e .1 .1 .0); scratch = now (e .1 .0) })
 transcribe-one κs a x y e f p q =

@@ -4,21 +4,18 @@ use mathlib.Core.List.{List, []}
 use mathlib.Core.Path.{_≡_, refl, _∙_}
 use Prim.Native.Nat.{ℕ, _-_, _≤_, _<_}
 use native.Mathlib.Omega.{arith}
-use borrow.Author.Tests.{leb-true, leb-false, ltb-true, ltb-false}
+use borrow.Author.Tests.{leb-true, leb-false, ltb-false}
 use lib.Dec.{ltb, leb, lit≤}
 use lib.ListN.{length}
-use Rattle.number.specs.Width.{bytesIn, widthOf}
-use Rattle.number.specs.declared.width.Size.the-variants.{Allowed}
-use Rattle.number.specs.declared.width.Width.{Width}
-use Rattle.number.specs.declared.width.Width.the-variants.{One, Two, Three, Four, Eight}
+use Rattle.number.specs.WidthLaws.{allowed}
 use Rattle.event.specs.declared.Event.{Event}
 use Rattle.event.specs.declared.Event.the-variants.{EndCollection}
 use Rattle.reader.specs.Layout.{dueOf, lookOf, sourceOf}
 use Rattle.reader.specs.Machine.{event, refused, step, refuse, Looked, barred, missing, faulty, scalar, container, Shape, startOf, enter, arrive, follow, stepOf}
 use Rattle.reader.specs.Next.{laidOut, begin, withRefs, goOn, nextOf}
-use Rattle.reader.specs.NextLaws.{next-begin, next-fresh-long, next-on}
+use Rattle.reader.specs.NextLaws.{next-begin, next-on}
 use Rattle.reader.specs.State.{maxOpen, maxLength, freshReader, endedReader, openOf, innermost, memberOf, passed, entered, closed}
-use Rattle.reader.specs.Trailer.{Trailer, keeps, ends, lays, trailerOf}
+use Rattle.reader.specs.Trailer.{Trailer, keeps, ends, lays, trailerOf, trailerIn}
 use Rattle.reader.specs.declared.layout.Due.the-variants.{Member}
 use Rattle.reader.specs.declared.layout.Layout.{Layout}
 use Rattle.reader.specs.declared.state.Reader.{Reader}
@@ -41,14 +38,6 @@ pub data Call (file : List ℕ) (l : Layout) (r : Reader) : Type 0 where
   entering : (n : ℕ) → dueOf file l (innermost r) ≡ Member n → memberOf (openOf r) n ≡ false → r .held < maxOpen
       → (s : Shape) (k offset : ℕ) → lookOf file l n ≡ container s k offset
       → nextOf file r ≡ step (entered r n k offset) (event (startOf s k) offset) → Call file l r
-
-allowed : (w : Width) → widthOf (bytesIn w) ≡ Allowed w
-unfolding widthOf bytesIn
-allowed One = refl
-allowed Two = refl
-allowed Three = refl
-allowed Four = refl
-allowed Eight = refl
 
 module _ (file : List ℕ) (r : Reader) (o : Open file r) where
   -- the sizes, the count and the table that are kept are the trailer's, so the call goes by what is due under its layout
@@ -108,7 +97,7 @@ module _ (file : List ℕ) where
   first-arrive t l root s d (container shape k offset) e st h = entering t l root s shape k offset e h
 
   pub first : First file
-  unfolding begin
+  unfolding begin trailerIn
   first = go (ltb maxLength (length file)) refl
     where
       trail : length file ≤ maxLength → (x : Trailer) → trailerOf file ≡ x → Tells file x → nextOf file freshReader ≡ begin file freshReader x → First file
@@ -117,5 +106,5 @@ module _ (file : List ℕ) where
       trail t (lays l root) e k h = first-arrive t l root e (k .laid) (lookOf file l root) refl (looks file l root) h
 
       go : (b : Bool) → ltb maxLength (length file) ≡ b → First file
-      go true e = keeping 1 [] 0 (lit≤ tt) (next-fresh-long file freshReader refl (ltb-true _ _ e))
-      go false e = trail (ltb-false _ _ e) (trailerOf file) refl (tells file) (next-begin file freshReader refl (ltb-false _ _ e))
+      go true e = keeping 1 [] 0 (lit≤ tt) (next-begin file freshReader refl ∙ rw e)
+      go false e = trail (ltb-false _ _ e) (trailerOf file) refl (tells file) (next-begin file freshReader refl ∙ rw e)

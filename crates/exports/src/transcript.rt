@@ -1,9 +1,8 @@
 // A whole file onto a tape, with the ending as numbers.
-use reader::answer::Refusal;
+use reader::answer::number_of;
 use transcribe::Ending;
 use transcribe::transcribe;
 ghost use mathlib.Core.Path.{_≡_};
-ghost use Rattle.reader.specs.Said.{numberOf};
 ghost use Rattle.transcribe.specs.Run.{transcriptOf};
 ghost use Rattle.transcribe.specs.Said.{endSaid};
 ghost use Rattle.exports.specs.Transcript.{endCode, endPlace};
@@ -38,7 +37,7 @@ fn end_code(ending: Ending) -> u32
     match ending {
         Ending::Ended => 0,
         Ending::Stopped => 255,
-        Ending::Refused(refusal, _) => refusal_number(refusal),
+        Ending::Refused(refusal, _) => number_of(refusal),
         Ending::BadText(_) => 20,
         Ending::NoRoomForTape(_) => 27,
     }
@@ -54,30 +53,5 @@ fn end_place(ending: Ending) -> u64
         Ending::Refused(_, place) => place,
         Ending::BadText(place) => place,
         Ending::NoRoomForTape(place) => place,
-    }
-}
-
-// Document 01's number.
-fn refusal_number(refusal: Refusal) -> u32
-    ensures { λ r. ⌜ r ≡ numberOf refusal ⌝ }
-{
-    match refusal {
-        Refusal::TooLong => 1,
-        Refusal::EndOfInput => 2,
-        Refusal::InvalidMagic => 3,
-        Refusal::InvalidTrailerObjectOffsetSize => 4,
-        Refusal::InvalidTrailerObjectReferenceSize => 5,
-        Refusal::ObjectOffsetTooLarge => 6,
-        Refusal::ObjectReferenceTooLarge => 7,
-        Refusal::NullObjectUnimplemented => 8,
-        Refusal::FillObjectUnimplemented => 9,
-        Refusal::UnknownObjectType(_) => 10,
-        Refusal::IntegerOutOfRange => 11,
-        Refusal::InvalidUtf8String => 12,
-        Refusal::InvalidUtf16String => 13,
-        Refusal::RecursiveObject => 14,
-        Refusal::TooDeep => 15,
-        Refusal::NoRoomForText => 16,
-        Refusal::WrongFile => 17,
     }
 }

@@ -1,7 +1,9 @@
 -- Laws of widths.
 use Prim.Native.Nat.{_≤_, _<_}
+use mathlib.Core.Path.{_≡_, refl}
 use lib.Dec.{lit<, lit≤}
-use Rattle.number.specs.Width.{bytesIn}
+use Rattle.number.specs.Width.{bytesIn, widthOf}
+use Rattle.number.specs.declared.width.Size.the-variants.{Allowed}
 use Rattle.number.specs.declared.width.Width.{Width}
 use Rattle.number.specs.declared.width.Width.the-variants.{One, Two, Three, Four, Eight}
 
@@ -21,3 +23,12 @@ bytesIn-le Two = lit≤ tt
 bytesIn-le Three = lit≤ tt
 bytesIn-le Four = lit≤ tt
 bytesIn-le Eight = lit≤ tt
+
+-- the size of a width is an allowed one, and gives it back
+pub allowed : (w : Width) → widthOf (bytesIn w) ≡ Allowed w
+unfolding widthOf bytesIn
+allowed One = refl
+allowed Two = refl
+allowed Three = refl
+allowed Four = refl
+allowed Eight = refl

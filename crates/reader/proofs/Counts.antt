@@ -14,7 +14,11 @@ use Rattle.number.specs.declared.width.Width.{Width}
 use Rattle.object.specs.Container.{containerAt}
 use Rattle.object.specs.declared.container.Container.{Container}
 use Rattle.object.specs.declared.container.Container.the-variants.{Array, Dictionary, NoContainer}
-use Rattle.reader.specs.Layout.{numberAt, entryAt, given, dueAt, placeIn, inArray, inDictionary, dueIn, dueFrom, dueOf, lookFrom, lookOf}
+use Rattle.object.specs.Content.{trailerAt}
+use Rattle.object.specs.Object.{Found, objectAt}
+use Rattle.object.specs.Object as found
+use Rattle.reader.proofs.Reach.{CountsBy, counts-in}
+use Rattle.reader.specs.Layout.{lookIn, numberAt, entryAt, given, dueAt, placeIn, inArray, inDictionary, dueIn, dueFrom, dueOf, lookFrom, lookOf}
 use Rattle.reader.specs.Machine.{barred, container, Shape}
 use Rattle.reader.specs.State.{maxLength}
 use Rattle.reader.specs.declared.layout.Due.the-variants.{Wrong, Close, Member}
@@ -82,3 +86,23 @@ pub numbered : (file : List ℕ) (l : Layout) (n : ℕ) (s : Shape) (k o : ℕ) 
 unfolding lookOf
 numbered file l n s k o e =
     ltb-true n (l .count) (first (ltb n (l .count)) (lookFrom file l (entryAt file l n)) (barred 7 _) (container s k o) e (λ f. let z : _≡_ {A = ℕ} 0 1 = cc in omega arith) .0)
+
+-- and at most as many elements or pairs as there are bytes before the trailer
+pub measured : (file : List ℕ) (l : Layout) (n : ℕ) (s : Shape) (k o : ℕ) → lookOf file l n ≡ container s k o → k ≤ trailerAt file
+unfolding lookOf lookFrom lookIn
+measured file l n s k o e =
+    go (entryAt file l n) (first (ltb n (l .count)) (lookFrom file l (entryAt file l n)) (barred 7 _) (container s k o) e (λ f. let z : _≡_ {A = ℕ} 0 1 = cc in omega arith) .1)
+  where
+    in-found : (offset : ℕ) (x : Found) → CountsBy (trailerAt file) x → lookIn offset x ≡ container s k o → k ≤ trailerAt file
+    in-found offset found.outside h f = let z : _≡_ {A = ℕ} 0 1 = cc in omega arith
+    in-found offset (found.refused number values) h f = let z : _≡_ {A = ℕ} 0 1 = cc in omega arith
+    in-found offset (found.scalar x) h f = let z : _≡_ {A = ℕ} 0 1 = cc in omega arith
+    in-found offset (found.bytes start m) h f = let z : _≡_ {A = ℕ} 0 1 = cc in omega arith
+    in-found offset (found.utf8 start m) h f = let z : _≡_ {A = ℕ} 0 1 = cc in omega arith
+    in-found offset (found.utf16 start m) h f = let z : _≡_ {A = ℕ} 0 1 = cc in omega arith
+    in-found offset (found.array m) h f = let z : m ≡ k = cc in rw (← z) h
+    in-found offset (found.dictionary m) h f = let z : m ≡ k = cc in rw (← z) h
+
+    go : (x : Entry) → lookFrom file l x ≡ container s k o → k ≤ trailerAt file
+    go Outside f = let z : _≡_ {A = ℕ} 0 1 = cc in omega arith
+    go (Of offset) f = in-found offset (objectAt file (l .refs) offset) (counts-in file (l .refs) offset) f

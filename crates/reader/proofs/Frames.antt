@@ -6,8 +6,8 @@ use mathlib.Core.Path.{_≡_, sym, _∙_}
 use native.Mathlib.Numerals.{add-one}
 use native.Mathlib.Omega.{arith}
 use lib.Dec.{eqb}
-use lib.ListN.{length, getD, take, drop, drop-of-length-le, length-map}
-use lib.Seq.{drop-cons, getD-take, length-take-le}
+use lib.ListN.{length, getD, take, drop, drop-of-length-le, length-map, length-take}
+use lib.Seq.{drop-cons, getD-take}
 use Rattle.reader.specs.State.{memberOf, noFrame}
 use Rattle.reader.specs.declared.state.Frame.{Frame}
 
@@ -15,13 +15,20 @@ use Rattle.reader.specs.declared.state.Frame.{Frame}
 pub unmapped : (X Y : Type 0) (f : X → Y) (l : List X) (n : ℕ) → length (map f l) ≡ n → length l ≡ n
 unmapped X Y f l n p = sym (length-map l f) ∙ p
 
-module _ (l : List Frame) (held n : ℕ) (fits : held ≤ length l) where
-  pub left-at : (i : ℕ) → i < held → memberOf (drop i (take held l)) n ≡ (eqb (getD l i noFrame .object) n || memberOf (drop (i + 1) (take held l)) n)
+module _ (l : List Frame) (held n : ℕ) where
+  pub left-at : (i : ℕ) → i < held → i < length l → memberOf (drop i (take held l)) n ≡ (eqb (getD l i noFrame .object) n || memberOf (drop (i + 1) (take held l)) n)
   unfolding memberOf
-  left-at i h =
-      let k : i < length (take held l) = rw length-take-le h in
-      rw (add-one i, drop-cons (take held l) i noFrame k, getD-take held l i noFrame h)
+  left-at i h k =
+      let z : i < length (take held l) = rw length-take (omega arith) in
+      rw (add-one i, drop-cons (take held l) i noFrame z, getD-take held l i noFrame h)
 
-  pub left-none : memberOf (drop held (take held l)) n ≡ false
+  pub left-none : (i : ℕ) → length (take held l) ≤ i → memberOf (drop i (take held l)) n ≡ false
   unfolding memberOf
-  left-none = rw (drop-of-length-le (take held l) {i = held} (omega (arith, length-take-le held l fits)))
+  left-none i h = rw (drop-of-length-le (take held l) {i = i} h)
+
+  -- behind the first so many, and behind all of them, nothing is left
+  pub taken : length (take held l) ≤ held
+  taken = rw length-take (omega arith)
+
+  pub all : length (take held l) ≤ length l
+  all = rw length-take (omega arith)

@@ -1,8 +1,11 @@
 pub mod Counts
 pub mod Frames
 pub mod Inside
+pub mod Looks
 pub mod Magic
 pub mod Numbers
 pub mod Reach
+pub mod Short
 pub mod Split
+pub mod Steps
 pub mod Wide

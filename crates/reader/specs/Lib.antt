@@ -1,5 +1,5 @@
 pub mod Cases
-pub mod Fetching
+pub mod FoundLaws
 pub mod Layout
 pub mod Machine
 pub mod Meanings

@@ -1,16 +1,19 @@
 -- What a call answers, case by case: document 01's order.
 use mathlib.Core.Bool.{Bool, true, false, cond, not, _&&_}
-use mathlib.Core.List.{List}
-use mathlib.Core.Path.{_≡_, ap, _∙_}
+use mathlib.Core.List.{List, []}
+use mathlib.Core.Path.{_≡_, refl, ap, _∙_}
 use Prim.Native.Nat.{ℕ, _≤_, _<_}
 use borrow.Author.Tests.{lt-ltb, le-ltb, eq-eqb, ne-eqb}
-use lib.Dec.{eqb}
+use lib.Dec.{ltb, eqb}
 use lib.ListN.{length}
 use Rattle.number.specs.Width.{widthOf}
-use Rattle.reader.specs.Machine.{ended, step, wrongFile}
-use Rattle.reader.specs.Next.{tooLong, begin, goOn, nextOf}
-use Rattle.reader.specs.State.{maxOpen, maxLength}
-use Rattle.reader.specs.Trailer.{trailerOf}
+use Rattle.number.specs.declared.width.Size.the-variants.{Allowed}
+use Rattle.reader.specs.Machine.{Step, ended, step, wrongFile, follow, stepOf}
+use Rattle.reader.specs.Next.{tooLong, begin, withRefs, goOn, nextOf}
+use Rattle.reader.specs.Layout.{dueOf, sourceOf}
+use Rattle.reader.specs.State.{maxOpen, maxLength, innermost}
+use Rattle.reader.specs.Trailer.{keeps, trailerOf, trailerIn}
+use Rattle.reader.specs.declared.layout.Layout.{Layout}
 use Rattle.reader.specs.declared.state.Reader.{Reader}
 
 -- the answer of a test that holds, and of one that doesn't
@@ -27,13 +30,13 @@ module _ (file : List ℕ) (r : Reader) where
   next-ended f e = yes _ _ (ap (λ (b : Bool). not b && eqb (r .held) 0) f ∙ eq-eqb _ _ e)
 
   -- a fresh reader
-  pub next-begin : r .fresh ≡ true → length file ≤ maxLength → nextOf file r ≡ begin file r (trailerOf file)
-  unfolding nextOf
-  next-begin f s = no _ _ (ap (λ (b : Bool). not b && eqb (r .held) 0) f) ∙ no _ _ (le-ltb _ _ s) ∙ yes _ _ f
-
-  pub next-fresh-long : r .fresh ≡ true → maxLength < length file → nextOf file r ≡ tooLong r
-  unfolding nextOf
-  next-fresh-long f s = no _ _ (ap (λ (b : Bool). not b && eqb (r .held) 0) f) ∙ yes _ _ (lt-ltb _ _ s)
+  pub next-begin : r .fresh ≡ true → nextOf file r ≡ begin file r (trailerIn file)
+  unfolding nextOf trailerIn begin
+  next-begin f = no _ _ (ap (λ (b : Bool). not b && eqb (r .held) 0) f) ∙ go (ltb maxLength (length file)) _
+    where
+      go : (b : Bool) (x : Step) → cond b (tooLong r) (cond (r .fresh) (begin file r (trailerOf file)) x) ≡ begin file r (cond b (keeps 1 [] 0) (trailerOf file))
+      go true x = refl
+      go false x = yes _ _ f
 
   module _ (old : r .fresh ≡ false) (some : r .held ≡ 0 → ⊥) where
     open-not-ended : not (r .fresh) && eqb (r .held) 0 ≡ false
@@ -56,3 +59,8 @@ module _ (file : List ℕ) (r : Reader) where
       pub next-on : r .length ≡ length file → r .held ≤ maxOpen → nextOf file r ≡ goOn file r (widthOf (r .offsets)) (widthOf (r .refs))
       unfolding nextOf
       next-on e h = no _ _ open-not-ended ∙ no _ _ (le-ltb _ _ short) ∙ no _ _ old ∙ no _ _ (ap not (eq-eqb _ _ e)) ∙ no _ _ (le-ltb _ _ h)
+
+      -- and what is due in the innermost container decides
+      pub next-due : r .length ≡ length file → r .held ≤ maxOpen → (l : Layout) → widthOf (r .offsets) ≡ Allowed (l .offsets) → widthOf (r .refs) ≡ Allowed (l .refs) → r .count ≡ l .count → r .table ≡ l .table → nextOf file r ≡ follow (sourceOf file l) r (dueOf file l (innermost r))
+      unfolding goOn withRefs stepOf sourceOf
+      next-due e h l o w n t = next-on e h ∙ rw (o, w, n, t)

@@ -1,7 +1,7 @@
 -- The text request: the bytes of a data or text record. Document 01: "A data or string record holds its object's offset; its bytes are asked
 -- for afterwards, file and scratch lent. One call answers the length or a refusal and fills scratch; a second's answer, empty where the
 -- first refuses, comes back as a part of one of them: the file for data and 5x, the scratch's first bytes for 6x."
-use mathlib.Core.Bool.{cond}
+use mathlib.Core.Bool.{Bool, true, false, cond}
 use mathlib.Core.List.{List, [], _++_}
 use Prim.Native.Nat.{ℕ}
 use lib.Dec.{ltb, leb}
@@ -12,6 +12,8 @@ use Rattle.event.specs.declared.Event.{Event}
 use Rattle.event.specs.declared.Event.the-variants.{StartArray, StartDictionary, EndCollection, Boolean, Data, Date, Integer, Real, Nan, String, Uid}
 use Rattle.object.specs.Content.{part}
 use Rattle.object.specs.Object.{Found, objectAt, outside, refused, scalar, bytes, utf8, utf16, array, dictionary}
+use Rattle.reader.specs.Machine as Machine
+use Rattle.reader.specs.Machine.{Looked, barred, missing, faulty, container}
 use Rattle.reader.specs.State.{maxLength}
 use Rattle.reader.specs.declared.answer.Record.{Record}
 
@@ -55,6 +57,28 @@ eventAsked file (Real x) offset = denied 17 []
 eventAsked file (Nan b) offset = denied 17 []
 eventAsked file String offset = textAsked (objectAt file One offset)
 eventAsked file (Uid n) offset = denied 17 []
+
+-- data and text have bytes
+unfoldable pub hasBytes : Event → Bool
+hasBytes (StartArray n) = false
+hasBytes (StartDictionary n) = false
+hasBytes EndCollection = false
+hasBytes (Boolean b) = false
+hasBytes Data = true
+hasBytes (Date b) = false
+hasBytes (Integer i) = false
+hasBytes (Real x) = false
+hasBytes (Nan b) = false
+hasBytes String = true
+hasBytes (Uid n) = false
+
+-- the bytes of an object that is looked up: a scalar's are asked for as its event's, and nothing else has any
+unfoldable pub lookedBytes : List ℕ → Looked → Asked
+lookedBytes file (barred number values) = denied 17 []
+lookedBytes file missing = denied 17 []
+lookedBytes file (faulty number values offset) = denied 17 []
+lookedBytes file (Machine.scalar e offset) = eventAsked file e offset
+lookedBytes file (container shape n offset) = denied 17 []
 
 -- first 1, then 17
 unfoldable pub askedOf : List ℕ → Record → Asked

@@ -80,7 +80,7 @@ unfoldable pub lookSaid : Look → Looked
 lookSaid (Barred r) = barred (numberOf r) (valuesOf r)
 lookSaid Missing = missing
 lookSaid (Faulty r offset) = faulty (numberOf r) (valuesOf r) offset
-lookSaid (Scalar e offset) = scalar e offset
+lookSaid (Scalar e bytes offset) = scalar e offset
 lookSaid (Container shape n offset) = container (shapeSaid shape) n offset
 
 unfoldable pub trailerSaid : TrailerRead → Trailer
@@ -101,3 +101,11 @@ unfoldable pub askedSaid : AskedRead → Asked
 askedSaid (InFile p) = inFile (p .start) (p .length)
 askedSaid (Wide p) = wide (p .start) (p .length)
 askedSaid (Denied r) = denied (numberOf r) (valuesOf r)
+
+-- where the bytes of what is looked up stand
+unfoldable pub lookBytes : Look → Asked
+lookBytes (Barred r) = denied 17 []
+lookBytes Missing = denied 17 []
+lookBytes (Faulty r offset) = denied 17 []
+lookBytes (Scalar e bytes offset) = askedSaid bytes
+lookBytes (Container shape n offset) = denied 17 []

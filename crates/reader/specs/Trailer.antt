@@ -1,5 +1,5 @@
 -- The trailer, in document 01's order: "length limit; 8 bytes present; magic `bplist00`; T not below 0; 6 padding bytes, unchecked; offset
--- size; reference size; count, root, table offset, 8 bytes each. .. Then the table". The length limit stands before it, in `nextOf`.
+-- size; reference size; count, root, table offset, 8 bytes each. .. Then the table". The length limit stands before it, in `trailerIn` and in `nextOf`.
 use mathlib.Core.Bool.{Bool, true, false, cond, _&&_}
 use mathlib.Core.List.{List, [], _∷_}
 use Prim.Native.Nat.{ℕ, _+_, _*_}
@@ -11,6 +11,7 @@ use Rattle.number.specs.declared.width.Size.{Size}
 use Rattle.number.specs.declared.width.Size.the-variants.{Allowed, NotAllowed}
 use Rattle.number.specs.declared.width.Width.{Width}
 use Rattle.object.specs.Content.{part, trailerAt}
+use Rattle.reader.specs.State.{maxLength}
 use Rattle.reader.specs.declared.layout.Layout.{Layout}
 
 -- what a trailer says: refused with number, values and place, and the reader unchanged or ended; or a layout and a root
@@ -55,3 +56,7 @@ trailerOf file =
     (cond (begins magic file)
     (cond (ltb (length file) 32) (keeps 2 [] 0) (sizesOf file (widthOf (getD file (trailerAt file + 6) 0))))
     (keeps 3 [] 0))
+
+-- "length limit" first: 1, with the place 0
+unfoldable pub trailerIn : List ℕ → Trailer
+trailerIn file = cond (ltb maxLength (length file)) (keeps 1 [] 0) (trailerOf file)

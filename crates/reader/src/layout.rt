@@ -61,7 +61,7 @@ pub(crate) fn entry_at(file: &[u8], layout: Layout, object: u32) -> Entry
 }
 
 // What is due in an open container: it is looked at again where its entry says that it stands.
-pub(crate) fn due_at(file: &[u8], layout: Layout, frame: Frame) -> Due
+pub fn due_at(file: &[u8], layout: Layout, frame: Frame) -> Due
     ensures { λ r. ⌜ r ≡ dueOf (now (file .entry)) layout frame ⌝ }
 {
     if layout.count <= frame.object {

@@ -3,34 +3,36 @@ use crate::answer::Refusal;
 use crate::layout::Entry;
 use crate::layout::Layout;
 use crate::layout::entry_at;
+use crate::request::Asked;
 use event::Event;
+use event::Length;
 use object::read::Object;
 use object::read::object_at;
 ghost use mathlib.Core.Path.{_≡_};
-ghost use Prim.Native.Nat.{_≤_};
-ghost use lib.ListN.{length};
 ghost use Rattle.reader.specs.Layout.{lookOf};
-ghost use Rattle.reader.specs.Said.{Same, lookSaid};
-ghost use Rattle.reader.specs.State.{maxLength};
+ghost use Rattle.reader.specs.Machine.{startOf};
+ghost use Rattle.reader.specs.Request.{lookedBytes};
+ghost use Rattle.reader.specs.Said.{Same, lookSaid, lookBytes, shapeSaid};
 
 pub enum Shape {
     Array,
     Dictionary,
 }
 
-// What an object is: refused before it is sought, not in this file, refused at its offset, a scalar, or a container with its length.
+// What an object is: refused before it is sought, not in this file, refused at its offset, a scalar with where its bytes stand, or a
+// container with its length.
 pub enum Look {
     Barred(Refusal),
     Missing,
     Faulty(Refusal, u64),
-    Scalar(Event, u64),
-    Container(Shape, u32, u64),
+    Scalar(Event, Asked, u64),
+    Container(Shape, u64, u64),
 }
 
 // The object of a number: its entry of the offset table, then what stands there.
-pub(crate) fn look_up(file: &[u8], layout: Layout, object: u64) -> Look
-    requires { ⌜ length (now file) ≤ maxLength ⌝ }
+pub fn look_up(file: &[u8], layout: Layout, object: u64) -> Look
     ensures { λ r. ⌜ lookSaid r ≡ lookOf (now (file .entry)) layout object ⌝ }
+    ensures { λ r. ⌜ lookBytes r ≡ lookedBytes (now (file .entry)) (lookOf (now (file .entry)) layout object) ⌝ }
 {
     if layout.count as u64 <= object {
         return Look::Barred(Refusal::ObjectReferenceTooLarge);
@@ -42,12 +44,12 @@ pub(crate) fn look_up(file: &[u8], layout: Layout, object: u64) -> Look
     match object_at(file, refs, offset as usize) {
         Object::Outside => Look::Barred(Refusal::ObjectOffsetTooLarge),
         Object::Refused(refusal) => Look::Faulty(refusal_of(refusal), offset),
-        Object::Scalar(event) => Look::Scalar(event, offset),
-        Object::Data(_) => Look::Scalar(Event::Data, offset),
-        Object::Utf8(_) => Look::Scalar(Event::String, offset),
-        Object::Utf16(_) => Look::Scalar(Event::String, offset),
-        Object::Array(length) => Look::Container(Shape::Array, length as u32, offset),
-        Object::Dictionary(length) => Look::Container(Shape::Dictionary, length as u32, offset),
+        Object::Scalar(event) => Look::Scalar(event, Asked::Denied(Refusal::WrongFile), offset),
+        Object::Data(part) => Look::Scalar(Event::Data, Asked::InFile(part), offset),
+        Object::Utf8(part) => Look::Scalar(Event::String, Asked::InFile(part), offset),
+        Object::Utf16(part) => Look::Scalar(Event::String, Asked::Wide(part), offset),
+        Object::Array(length) => Look::Container(Shape::Array, length, offset),
+        Object::Dictionary(length) => Look::Container(Shape::Dictionary, length, offset),
     }
 }
 
@@ -64,5 +66,15 @@ fn refusal_of(refusal: object::read::Refusal) -> Refusal
         object::read::Refusal::IntegerOutOfRange => Refusal::IntegerOutOfRange,
         object::read::Refusal::InvalidUtf8String => Refusal::InvalidUtf8String,
         object::read::Refusal::InvalidUtf16String => Refusal::InvalidUtf16String,
+    }
+}
+
+// The event that a container begins with.
+pub fn start_of(shape: Shape, length: u64) -> Event
+    ensures { λ r. ⌜ r ≡ startOf (shapeSaid shape) length ⌝ }
+{
+    match shape {
+        Shape::Array => Event::StartArray(Length::Given(length)),
+        Shape::Dictionary => Event::StartDictionary(Length::Given(length)),
     }
 }

@@ -1,6 +1,7 @@
 // The reader's state: it goes in by value and comes back by value.
 ghost use mathlib.Core.Path.{_≡_};
-ghost use Rattle.reader.specs.State.{maxOpen, maxLength, freshReader, endedReader};
+ghost use lib.ListN.{take};
+ghost use Rattle.reader.specs.State.{maxOpen, maxLength, freshReader, endedReader, memberOf};
 
 // An open container: its object's number, how many of its references were handed out, its number of elements or pairs.
 pub struct Frame {
@@ -85,4 +86,21 @@ impl Reader {
     {
         Reader::ENDED
     }
+}
+
+// Whether an object is among the first so many frames.
+pub fn is_open(frames: [Frame; Reader::MAX_OPEN], held: usize, object: u32) -> bool
+    ensures { λ r. ⌜ r ≡ memberOf (take held frames) object ⌝ }
+{
+    let mut i = 0;
+    while i < Reader::MAX_OPEN {
+        if held <= i {
+            return false;
+        }
+        if frames[i].object == object {
+            return true;
+        }
+        i += 1;
+    }
+    false
 }

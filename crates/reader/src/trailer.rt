@@ -3,6 +3,7 @@ use crate::answer::Refusal;
 use crate::layout::Entry;
 use crate::layout::Layout;
 use crate::layout::number_at;
+use crate::state::Reader;
 use number::width::Size;
 use number::width::Width;
 use number::width::bytes_in;
@@ -15,7 +16,7 @@ ghost use Rattle.number.specs.Be.{be};
 ghost use Rattle.object.specs.Content.{part};
 ghost use Rattle.reader.specs.Said.{trailerSaid};
 ghost use Rattle.reader.specs.State.{maxLength};
-ghost use Rattle.reader.specs.Trailer.{trailerOf, sizesOf, tableOf};
+ghost use Rattle.reader.specs.Trailer.{trailerIn, trailerOf, sizesOf, tableOf};
 
 // A refusal that leaves the reader as it was, one that ends it, or the layout and the root's number.
 pub enum TrailerRead {
@@ -27,7 +28,17 @@ pub enum TrailerRead {
 // "bplist00" as a number.
 const MAGIC: u64 = 0x6270_6c69_7374_3030;
 
-pub(crate) fn read_trailer(file: &[u8]) -> TrailerRead
+// The length limit stands before all else.
+pub fn trailer_of(file: &[u8]) -> TrailerRead
+    ensures { λ r. ⌜ trailerSaid r ≡ trailerIn (now (file .entry)) ⌝ }
+{
+    if Reader::MAX_LENGTH < file.len() {
+        return TrailerRead::Keeps(Refusal::TooLong, 0);
+    }
+    read_trailer(file)
+}
+
+fn read_trailer(file: &[u8]) -> TrailerRead
     requires { ⌜ length (now file) ≤ maxLength ⌝ }
     ensures { λ r. ⌜ trailerSaid r ≡ trailerOf (now (file .entry)) ⌝ }
 {

@@ -7,12 +7,12 @@ use hexlines::line::next;
 use libc::STDOUT_FILENO;
 use reader::answer::Answer;
 use reader::answer::Record;
+use reader::answer::number_of;
 use reader::request::TextLength;
 use reader::request::text_length;
 use reader::request::text_part;
 use reader::state::Frame;
 use reader::state::Reader;
-use say::number_of;
 use say::say_answer;
 use say::say_refusal;
 ghost use Prim.Native.Nat.{_≤_};
@@ -231,7 +231,7 @@ fn say_length(out: &mut [u8], length: TextLength) {
             io::write_all(STDOUT_FILENO, b"length ");
             say_number(n, b"\n");
         }
-        TextLength::Refused(refusal, place) => say_refusal(out, number_of(refusal), place),
+        TextLength::Refused(refusal, place) => say_refusal(out, number_of(refusal) as u64, place),
     }
 }
 

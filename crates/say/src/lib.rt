@@ -10,17 +10,15 @@ use line::put::put_fixed;
 use line::put::put_refusal;
 use reader::answer::Answer;
 use reader::answer::Record;
-use reader::answer::Refusal;
+use reader::answer::number_of;
 use reader::request::text_length;
 use reader::request::text_part;
-ghost use mathlib.Core.Path.{_≡_};
-ghost use Rattle.reader.specs.Said.{numberOf};
 
 pub fn say_answer(file: &[u8], scratch: &mut [u8], out: &mut [u8], answer: Answer) {
     match answer {
         Answer::Handed(handed) => say_event(file, scratch, out, handed),
         Answer::Ended => say_fixed(out, Fixed::End),
-        Answer::Refused(refusal, place) => say_refusal(out, number_of(refusal), place),
+        Answer::Refused(refusal, place) => say_refusal(out, number_of(refusal) as u64, place),
     }
 }
 
@@ -53,30 +51,5 @@ pub fn say_put(out: &[u8], put: Put) {
         Put::NoRoom => {
             io::write_all(STDOUT_FILENO, b"no room\n");
         }
-    }
-}
-
-// A refusal's number in document 01.
-pub fn number_of(refusal: Refusal) -> u64
-    ensures { λ r. ⌜ r ≡ numberOf refusal ⌝ }
-{
-    match refusal {
-        Refusal::TooLong => 1,
-        Refusal::EndOfInput => 2,
-        Refusal::InvalidMagic => 3,
-        Refusal::InvalidTrailerObjectOffsetSize => 4,
-        Refusal::InvalidTrailerObjectReferenceSize => 5,
-        Refusal::ObjectOffsetTooLarge => 6,
-        Refusal::ObjectReferenceTooLarge => 7,
-        Refusal::NullObjectUnimplemented => 8,
-        Refusal::FillObjectUnimplemented => 9,
-        Refusal::UnknownObjectType(_) => 10,
-        Refusal::IntegerOutOfRange => 11,
-        Refusal::InvalidUtf8String => 12,
-        Refusal::InvalidUtf16String => 13,
-        Refusal::RecursiveObject => 14,
-        Refusal::TooDeep => 15,
-        Refusal::NoRoomForText => 16,
-        Refusal::WrongFile => 17,
     }
 }

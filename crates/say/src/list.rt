@@ -1,5 +1,4 @@
 // The listing: one line for each event, until the end, a refusal, or the last event that is listed.
-use crate::number_of;
 use crate::say_answer;
 use crate::say_event;
 use crate::say_fixed;
@@ -7,6 +6,7 @@ use crate::say_refusal;
 use line::put::Fixed;
 use reader::answer::Answer;
 use reader::answer::Record;
+use reader::answer::number_of;
 use reader::request::TextLength;
 use reader::request::text_length;
 use reader::state::Reader;

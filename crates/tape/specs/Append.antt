@@ -1,12 +1,14 @@
 -- An event appended to a tape of which the front is held.
 use mathlib.Core.Bool.{Bool, cond}
 use mathlib.Core.List.{List}
+use mathlib.Core.Path.{_≡_}
 use Prim.Native.Nat.{ℕ, _+_}
 use lib.Dec.{leb}
 use lib.ListN.{length}
 use lib.Seq.{sets}
 use Rattle.event.specs.Meaning.{Meaning}
 use Rattle.tape.specs.Code.{bytesFor, allowed}
+use Rattle.tape.specs.Item.{event, readAt}
 use Rattle.tape.specs.declared.append.Appended.{Appended}
 use Rattle.tape.specs.declared.append.Appended.the-variants.{Held, BadText, NoRoom}
 
@@ -39,3 +41,8 @@ appendOf tape at m = cond (allowed m) (putOf tape at (bytesFor m)) (refused 20 a
 
 unfoldable pub appendTo : List ℕ → ℕ → Meaning → List ℕ
 appendTo tape at m = cond (allowed m) (putTo tape at (bytesFor m)) tape
+
+-- what is appended is stepped to again: where bytes are held up to a place, the event behind those held before means the same, and
+-- the next one begins at that place
+abbrev pub ReadsBack : List ℕ → ℕ → Meaning → Said → Type 0
+ReadsBack tape at m s = (next : ℕ) → s ≡ held next → readAt tape at ≡ event m next

@@ -11,7 +11,7 @@ use lib.ListN.{length, set, take, drop, length-append}
 use lib.Seq.{sets, sets-eq, length-take-le, take-at, drop-drop}
 use Rattle.event.specs.Meaning.{Meaning, meaningOf}
 use Rattle.event.specs.declared.Event.{Event}
-use Rattle.tape.specs.Append.{Said, held, refused, said, fits, putOf, putTo, appendOf, appendTo}
+use Rattle.tape.specs.Append.{Said, held, refused, said, fits, putOf, putTo, appendOf, appendTo, ReadsBack}
 use Rattle.tape.specs.Code.{bytesFor, InRange, allowed}
 use Rattle.tape.specs.CodeLaws.{reads-back}
 use Rattle.tape.specs.Item.{itemAt, meaningIn, event, readAt}
@@ -96,10 +96,22 @@ module _ (tape : List ℕ) (at k : ℕ) (s : List ℕ) where
       let q : n ≡ at + suc (length s) = omega arith in
       (rw (e, q), rw e (rw add-one at g))
 
--- an event that the tape takes is its bytes, if they fit
-pub put-event : (tape : List ℕ) (at : ℕ) (m : Meaning) {x : Said} {l : List ℕ} → allowed m ≡ true → (x ≡ putOf tape at (bytesFor m)) × (l ≡ putTo tape at (bytesFor m)) → (x ≡ appendOf tape at m) × (l ≡ appendTo tape at m)
-unfolding appendOf appendTo
-put-event tape at m e p = (rw e (p .0), rw e (p .1))
+module _ (tape : List ℕ) (at : ℕ) (m : Meaning) where
+  -- an event that the tape does not take
+  pub put-bad : allowed m ≡ false → (refused 20 at ≡ appendOf tape at m) × (tape ≡ appendTo tape at m)
+  unfolding appendOf appendTo
+  put-bad e = (rw e, rw e)
+
+  -- and one that it takes is its bytes, if they fit
+  pub put-event : {x : Said} {l : List ℕ} → allowed m ≡ true → (x ≡ putOf tape at (bytesFor m)) × (l ≡ putTo tape at (bytesFor m)) → (x ≡ appendOf tape at m) × (l ≡ appendTo tape at m)
+  unfolding appendOf appendTo
+  put-event e p = (rw e (p .0), rw e (p .1))
+
+  -- either way the event is stepped to again, where it is in range
+  pub put-reads :
+      {x : Said} {l : List ℕ} → InRange m → (x ≡ appendOf tape at m) × (l ≡ appendTo tape at m) →
+      (x ≡ appendOf tape at m) × ((l ≡ appendTo tape at m) × (InRange m × ReadsBack l at m x))
+  put-reads h p = (p .0, (p .1, (h, λ next e. rw (p .1) (append-reads tape at m next h (sym (p .0) ∙ e)))))
 
 -- a part of a list that is replaced
 pub put-part : (l : List ℕ) (at end : ℕ) (s : List ℕ) → at + length s ≡ end → end ≤ length l → take at l ++ (s ++ drop (end - at) (drop at l)) ≡ sets l at s

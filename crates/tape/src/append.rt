@@ -9,14 +9,16 @@ use event::real::float_bits;
 use number::be::write_be;
 use number::signed::magnitude;
 use unicode::utf8::is_utf8;
+ghost use mathlib.Core.Bool.{not};
 ghost use mathlib.Core.List.{[], _∷_, _++_};
 ghost use mathlib.Core.Path.{_≡_};
 ghost use Prim.Native.Nat.{_+_, _≤_, _<_};
 ghost use lib.ListN.{length};
 ghost use lib.Seq.{sets};
-ghost use Rattle.event.specs.Meaning.{boolean, integer, text, meaningOf, valueOf};
+ghost use Rattle.event.specs.Meaning.{boolean, integer, meaningOf, valueOf};
 ghost use Rattle.number.specs.Be.{bytesOf};
-ghost use Rattle.tape.specs.Append.{said, putOf, putTo, appendOf, appendTo};
+ghost use Rattle.tape.specs.Append.{said, putOf, putTo, appendOf, appendTo, ReadsBack};
+ghost use Rattle.tape.specs.Code.{bytesFor, InRange, allowed};
 ghost use Rattle.tape.specs.Seven.{seven};
 ghost use Rattle.tape.specs.Kinds.{startBytes, signKind};
 
@@ -28,56 +30,90 @@ pub enum Appended {
 }
 
 // The event behind the bytes that are held; `bytes` are those of data or text. A refusal leaves the tape as it is.
+// The last two clauses are here since only code knows that an event's numbers have 64 bits: its meaning is in range, so it is
+// stepped to again.
 pub fn append(tape: &mut [u8], held: usize, event: Event, bytes: &[u8]) -> Appended
     ensures { λ r. ⌜ said r ≡ appendOf (now (tape .entry)) held (meaningOf event (now (bytes .entry))) ⌝ }
     ensures { λ _. ⌜ now (tape .exit) ≡ appendTo (now (tape .entry)) held (meaningOf event (now (bytes .entry))) ⌝ }
+    ensures { λ _. ⌜ InRange (meaningOf event (now (bytes .entry))) ⌝ }
+    ensures { λ r. ⌜ ReadsBack (now (tape .exit)) held (meaningOf event (now (bytes .entry))) (said r) ⌝ }
+{
+    if is_bad_text(event, bytes) {
+        return Appended::BadText(held as u64);
+    }
+    put(tape, held, event, bytes)
+}
+
+// The same with text not checked, for a caller who knows that its text is UTF-8.
+pub fn put(tape: &mut [u8], held: usize, event: Event, bytes: &[u8]) -> Appended
+    ensures { λ r. ⌜ said r ≡ putOf (now (tape .entry)) held (bytesFor (meaningOf event (now (bytes .entry)))) ⌝ }
+    ensures { λ _. ⌜ now (tape .exit) ≡ putTo (now (tape .entry)) held (bytesFor (meaningOf event (now (bytes .entry)))) ⌝ }
 {
     match event {
-        Event::StartArray(length) => append_start(tape, held, 0x0a, length),
-        Event::StartDictionary(length) => append_start(tape, held, 0x0c, length),
-        Event::EndCollection => append_kind(tape, held, 0x0e),
-        Event::Boolean(value) => append_boolean(tape, held, value),
-        Event::Data => append_bytes(tape, held, 0x08, bytes),
-        Event::Date(bits) => append_eight(tape, held, 0x06, bits),
-        Event::Integer(value) => append_integer(tape, held, value),
-        Event::Real(value) => append_eight(tape, held, 0x05, float_bits(value)),
-        Event::Nan(bits) => append_eight(tape, held, 0x05, bits),
-        Event::String => append_text(tape, held, bytes),
-        Event::Uid(n) => append_number(tape, held, 0x07, n),
+        Event::StartArray(length) => put_start(tape, held, 0x0a, length),
+        Event::StartDictionary(length) => put_start(tape, held, 0x0c, length),
+        Event::EndCollection => put_kind(tape, held, 0x0e),
+        Event::Boolean(value) => put_boolean(tape, held, value),
+        Event::Data => put_bytes(tape, held, 0x08, bytes),
+        Event::Date(bits) => put_eight(tape, held, 0x06, bits),
+        Event::Integer(value) => put_integer(tape, held, value),
+        Event::Real(value) => put_eight(tape, held, 0x05, float_bits(value)),
+        Event::Nan(bits) => put_eight(tape, held, 0x05, bits),
+        Event::String => put_bytes(tape, held, 0x09, bytes),
+        Event::Uid(n) => put_number(tape, held, 0x07, n),
+    }
+}
+
+// Whether the tape can't take the event: it is text and not UTF-8.
+fn is_bad_text(event: Event, bytes: &[u8]) -> bool
+    ensures { λ r. ⌜ r ≡ not (allowed (meaningOf event (now (bytes .entry)))) ⌝ }
+{
+    match event {
+        Event::StartArray(_) => false,
+        Event::StartDictionary(_) => false,
+        Event::EndCollection => false,
+        Event::Boolean(_) => false,
+        Event::Data => false,
+        Event::Date(_) => false,
+        Event::Integer(_) => false,
+        Event::Real(_) => false,
+        Event::Nan(_) => false,
+        Event::String => !is_utf8(bytes),
+        Event::Uid(_) => false,
     }
 }
 
 // A container with its length has the kind after that of one without.
-fn append_start(tape: &mut [u8], held: usize, kind: u8, length: Length) -> Appended
+fn put_start(tape: &mut [u8], held: usize, kind: u8, length: Length) -> Appended
     requires { ⌜ kind < 0xff ⌝ }
     ensures { λ r. ⌜ said r ≡ putOf (now (tape .entry)) held (startBytes kind length) ⌝ }
     ensures { λ _. ⌜ now (tape .exit) ≡ putTo (now (tape .entry)) held (startBytes kind length) ⌝ }
 {
     match length {
-        Length::NotGiven => append_kind(tape, held, kind),
-        Length::Given(n) => append_number(tape, held, kind + 1, n),
+        Length::NotGiven => put_kind(tape, held, kind),
+        Length::Given(n) => put_number(tape, held, kind + 1, n),
     }
 }
 
-fn append_boolean(tape: &mut [u8], held: usize, value: bool) -> Appended
-    ensures { λ r. ⌜ said r ≡ appendOf (now (tape .entry)) held (boolean value) ⌝ }
-    ensures { λ _. ⌜ now (tape .exit) ≡ appendTo (now (tape .entry)) held (boolean value) ⌝ }
+fn put_boolean(tape: &mut [u8], held: usize, value: bool) -> Appended
+    ensures { λ r. ⌜ said r ≡ putOf (now (tape .entry)) held (bytesFor (boolean value)) ⌝ }
+    ensures { λ _. ⌜ now (tape .exit) ≡ putTo (now (tape .entry)) held (bytesFor (boolean value)) ⌝ }
 {
     if value {
-        append_kind(tape, held, 0x02)
+        put_kind(tape, held, 0x02)
     } else {
-        append_kind(tape, held, 0x01)
+        put_kind(tape, held, 0x01)
     }
 }
 
 // A negative integer n stands as -1 - n.
-fn append_integer(tape: &mut [u8], held: usize, value: Integer) -> Appended
-    ensures { λ r. ⌜ said r ≡ appendOf (now (tape .entry)) held (integer (valueOf value)) ⌝ }
-    ensures { λ _. ⌜ now (tape .exit) ≡ appendTo (now (tape .entry)) held (integer (valueOf value)) ⌝ }
+fn put_integer(tape: &mut [u8], held: usize, value: Integer) -> Appended
+    ensures { λ r. ⌜ said r ≡ putOf (now (tape .entry)) held (bytesFor (integer (valueOf value))) ⌝ }
+    ensures { λ _. ⌜ now (tape .exit) ≡ putTo (now (tape .entry)) held (bytesFor (integer (valueOf value))) ⌝ }
 {
     match value {
-        Integer::Unsigned(n) => append_number(tape, held, 0x03, n),
-        Integer::Signed(z) => append_number(tape, held, sign_kind(z), magnitude(z)),
+        Integer::Unsigned(n) => put_number(tape, held, 0x03, n),
+        Integer::Signed(z) => put_number(tape, held, sign_kind(z), magnitude(z)),
     }
 }
 
@@ -87,18 +123,8 @@ fn sign_kind(z: i64) -> u8
     if z < 0 { 0x04 } else { 0x03 }
 }
 
-fn append_text(tape: &mut [u8], held: usize, bytes: &[u8]) -> Appended
-    ensures { λ r. ⌜ said r ≡ appendOf (now (tape .entry)) held (text (now (bytes .entry))) ⌝ }
-    ensures { λ _. ⌜ now (tape .exit) ≡ appendTo (now (tape .entry)) held (text (now (bytes .entry))) ⌝ }
-{
-    if is_utf8(bytes) {
-        return append_bytes(tape, held, 0x09, bytes);
-    }
-    Appended::BadText(held as u64)
-}
-
 // A kind alone.
-fn append_kind(tape: &mut [u8], held: usize, kind: u8) -> Appended
+fn put_kind(tape: &mut [u8], held: usize, kind: u8) -> Appended
     ensures { λ r. ⌜ said r ≡ putOf (now (tape .entry)) held (kind ∷ []) ⌝ }
     ensures { λ _. ⌜ now (tape .exit) ≡ putTo (now (tape .entry)) held (kind ∷ []) ⌝ }
 {
@@ -110,7 +136,7 @@ fn append_kind(tape: &mut [u8], held: usize, kind: u8) -> Appended
 }
 
 // A kind and a number.
-fn append_number(tape: &mut [u8], held: usize, kind: u8, n: u64) -> Appended
+fn put_number(tape: &mut [u8], held: usize, kind: u8, n: u64) -> Appended
     ensures { λ r. ⌜ said r ≡ putOf (now (tape .entry)) held (kind ∷ seven n) ⌝ }
     ensures { λ _. ⌜ now (tape .exit) ≡ putTo (now (tape .entry)) held (kind ∷ seven n) ⌝ }
 {
@@ -122,7 +148,7 @@ fn append_number(tape: &mut [u8], held: usize, kind: u8, n: u64) -> Appended
 }
 
 // A kind and 8 bytes, the high one first.
-fn append_eight(tape: &mut [u8], held: usize, kind: u8, bits: u64) -> Appended
+fn put_eight(tape: &mut [u8], held: usize, kind: u8, bits: u64) -> Appended
     ensures { λ r. ⌜ said r ≡ putOf (now (tape .entry)) held (kind ∷ bytesOf 8 bits) ⌝ }
     ensures { λ _. ⌜ now (tape .exit) ≡ putTo (now (tape .entry)) held (kind ∷ bytesOf 8 bits) ⌝ }
 {
@@ -137,7 +163,7 @@ fn append_eight(tape: &mut [u8], held: usize, kind: u8, bits: u64) -> Appended
 }
 
 // A kind, a length and so many bytes.
-fn append_bytes(tape: &mut [u8], held: usize, kind: u8, bytes: &[u8]) -> Appended
+fn put_bytes(tape: &mut [u8], held: usize, kind: u8, bytes: &[u8]) -> Appended
     ensures { λ r. ⌜ said r ≡ putOf (now (tape .entry)) held (kind ∷ (seven (length (now (bytes .entry))) ++ now (bytes .entry))) ⌝ }
     ensures { λ _. ⌜ now (tape .exit) ≡ putTo (now (tape .entry)) held (kind ∷ (seven (length (now (bytes .entry))) ++ now (bytes .entry))) ⌝ }
 {

@@ -4,12 +4,10 @@ use mathlib.Core.Bool.{Bool, true, false, cond, not, _&&_, true≢false}
 use mathlib.Core.List.{List, [], _∷_}
 use mathlib.Core.Logic.{_⊎_, inl, inr}
 use mathlib.Core.Path.{_≡_, refl}
-use Prim.Native.Nat.{ℕ, _+_, _*_, _^_, _<_}
+use Prim.Native.Nat.{ℕ, _+_, _*_, _<_}
 use native.Mathlib.Omega.{arith}
 use lib.Dec.{ltb, leb, eqb, lit<}
-use lib.Ieee.{binary32, binary64, nanBits}
 use lib.ListN.{length, getD, drop}
-use Rattle.number.specs.Be.{be}
 use Rattle.number.specs.BeLaws.{Bytes}
 use Rattle.number.specs.Width.{bytesIn, widthOf}
 use Rattle.number.specs.declared.width.Size.{Size}
@@ -18,24 +16,19 @@ use Rattle.number.specs.declared.width.Width.{Width}
 use Rattle.number.specs.declared.width.Width.the-variants.{One}
 use Rattle.unicode.specs.Bounds.{Below}
 use Rattle.unicode.specs.ChangeLaws.{toUtf8-good}
-use Rattle.unicode.specs.Unicode.{isUtf8, isUtf16, toUtf8}
+use Rattle.unicode.specs.Unicode.{isUtf16, toUtf8}
 use Rattle.event.specs.Meaning.{meaningOf}
-use Rattle.event.specs.Real.{realOf, shortRealOf}
 use Rattle.event.specs.declared.Event.{Event}
 use Rattle.event.specs.declared.Event.the-variants.{StartArray, StartDictionary, EndCollection, Boolean, Data, Date, Integer, Real, Nan, String, Uid}
-use Rattle.object.specs.Content.{part, trailerAt, roomFor, contentAt}
-use Rattle.object.specs.Kind.{kindOf}
-use Rattle.object.specs.Object.{Found, objectAt, byKind, wideIn, dataIn, utf8In, utf16In, arrayIn, dictionaryIn}
+use Rattle.object.specs.Content.{part, trailerAt}
+use Rattle.object.specs.Object.{Found, objectAt}
 use Rattle.object.specs.Object as found
-use Rattle.object.specs.declared.content.Content.{Content}
-use Rattle.object.specs.declared.content.Content.the-variants.{Fits, TooLarge}
-use Rattle.object.specs.declared.kind.Kind.{Kind}
-use Rattle.object.specs.declared.kind.Kind.the-variants as kind
 use Rattle.reader.specs.Layout.{entryAt, lookIn, lookFrom, lookOf, sourceOf}
 use Rattle.reader.specs.Machine.{Said, Step, event, ended, refused, Shape, array, dictionary, Looked, barred, missing, faulty, scalar, container, step, startOf, enter, arrive, follow, stepOf}
 use Rattle.reader.specs.Meanings.{bytesAsked}
 use Rattle.reader.specs.Next.{tooLong, begin, laidOut, withRefs, goOn, nextOf}
-use Rattle.reader.specs.Request.{Asked, inFile, wide, denied, dataAsked, textAsked, eventAsked}
+use Rattle.reader.specs.FoundLaws.{Found-right, object-right, plain-denied}
+use Rattle.reader.specs.Request.{Asked, inFile, wide, denied, dataAsked, textAsked, eventAsked, hasBytes}
 use Rattle.reader.specs.State.{maxOpen, maxLength, openOf, memberOf}
 use Rattle.reader.specs.Trailer.{Trailer, keeps, ends, lays, magic, begins, eightAt, tableOf, refSizeOf, sizesOf, trailerOf}
 use Rattle.reader.specs.declared.layout.Due.{Due}
@@ -46,7 +39,6 @@ use Rattle.reader.specs.declared.layout.Layout.{Layout}
 use Rattle.reader.specs.declared.state.Reader.{Reader}
 use Rattle.tape.specs.Code.{allowed}
 use Rattle.tape.specs.PartLaws.{bytes-take, bytes-drop}
-use Rattle.transcribe.specs.Note.{hasBytes}
 
 -- where the bytes of an event stand: in the file, and then the tape takes them; as UTF-16, which text alone does; nowhere, if it has none
 abbrev pub Given : List ℕ → Event → Asked → Type 0
@@ -58,103 +50,10 @@ Given file e (denied number values) = hasBytes e ≡ false
 abbrev pub Own : ℕ → Type 0
 Own number = (number < 16) ⊎ (number ≡ 17)
 
--- what is found at an offset, with references of any width and of one byte: data and text are the same
-abbrev Found-right : List ℕ → Found → Found → Type 0
-Found-right file found.outside y = Unit {0}
-Found-right file (found.refused number values) y = number < 16
-Found-right file (found.scalar e) y = hasBytes e ≡ false
-Found-right file (found.bytes start n) y = y ≡ found.bytes start n
-Found-right file (found.utf8 start n) y = (y ≡ found.utf8 start n) × (isUtf8 (part file start n) ≡ true)
-Found-right file (found.utf16 start n) y = (y ≡ found.utf16 start n) × (isUtf16 (part file start n) ≡ true)
-Found-right file (found.array n) y = Unit {0}
-Found-right file (found.dictionary n) y = Unit {0}
-
--- by a test, whose answer both sides may use
-by-test : (P : Found → Type 0) (b : Bool) (x y : Found) → (b ≡ true → P x) → (b ≡ false → P y) → P (cond b x y)
-by-test P true x y p q = p refl
-by-test P false x y p q = q refl
-
-real-plain : (b : Bool) (x y : Event) → hasBytes x ≡ false → hasBytes y ≡ false → hasBytes (cond b x y) ≡ false
-real-plain true x y p q = p
-real-plain false x y p q = q
-
 module _ (file : List ℕ) where
-  wide-right : (s : List ℕ) (y : Found) → Found-right file (wideIn s) y
-  unfolding wideIn hasBytes
-  wide-right s y = by-test (λ (x : Found). Found-right file x y) (ltb (be s) (2 ^ 64)) _ _ (λ e. refl) (λ e. lit< tt)
-
-  data-right : (x : Content) → Found-right file (dataIn x) (dataIn x)
-  unfolding dataIn
-  data-right TooLarge = lit< tt
-  data-right (Fits e) = refl
-
-  utf8-right : (x : Content) → Found-right file (utf8In file x) (utf8In file x)
-  unfolding utf8In
-  utf8-right TooLarge = lit< tt
-  utf8-right (Fits e) =
-      by-test (λ (x : Found). Found-right file x x) (isUtf8 (part file (e .start) (e .count))) _ _ (λ h. (refl, h)) (λ h. lit< tt)
-
-  utf16-right : (x : Content) → Found-right file (utf16In file x) (utf16In file x)
-  unfolding utf16In
-  utf16-right TooLarge = lit< tt
-  utf16-right (Fits e) =
-      by-test (λ (x : Found). Found-right file x x) (isUtf16 (part file (e .start) (e .count * 2))) _ _ (λ h. (refl, h)) (λ h. lit< tt)
-
-  array-right : (x : Content) (y : Found) → Found-right file (arrayIn x) y
-  unfolding arrayIn
-  array-right TooLarge y = lit< tt
-  array-right (Fits e) y = tt
-
-  dictionary-right : (offset each : ℕ) (x : Content) (y : Found) → Found-right file (dictionaryIn file offset each x) y
-  unfolding dictionaryIn
-  dictionary-right offset each TooLarge y = lit< tt
-  dictionary-right offset each (Fits e) y =
-      by-test (λ (x : Found). Found-right file x y) (leb (e .start + 2 * (e .count * each)) (length file)) _ _
-      (λ h. by-test (λ (x : Found). Found-right file x y) (roomFor file offset (2 * (e .count * each))) _ _ (λ g. tt) (λ g. lit< tt))
-      (λ h. lit< tt)
-
-  kind-right : (refs : Width) (offset : ℕ) (k : Kind) → Found-right file (byKind file refs offset k) (byKind file One offset k)
-  unfolding byKind realOf shortRealOf hasBytes
-  kind-right refs offset kind.Null = lit< tt
-  kind-right refs offset kind.False = refl
-  kind-right refs offset kind.True = refl
-  kind-right refs offset kind.Fill = lit< tt
-  kind-right refs offset (kind.Unsigned width) = refl
-  kind-right refs offset kind.Signed = refl
-  kind-right refs offset kind.Wide = wide-right (part file (offset + 1) 16) _
-  kind-right refs offset kind.ShortReal = real-plain (nanBits binary32 (be (part file (offset + 1) 4))) _ _ refl refl
-  kind-right refs offset kind.Real = real-plain (nanBits binary64 (be (part file (offset + 1) 8))) _ _ refl refl
-  kind-right refs offset kind.Date = refl
-  kind-right refs offset (kind.Data nibble) = data-right (contentAt file offset nibble 1)
-  kind-right refs offset (kind.Utf8 nibble) = utf8-right (contentAt file offset nibble 1)
-  kind-right refs offset (kind.Utf16 nibble) = utf16-right (contentAt file offset nibble 2)
-  kind-right refs offset (kind.Uid width) = refl
-  kind-right refs offset (kind.Array nibble) = array-right (contentAt file offset nibble (bytesIn refs)) _
-  kind-right refs offset (kind.Dictionary nibble) = dictionary-right offset (bytesIn refs) (contentAt file offset nibble (bytesIn refs)) _
-  kind-right refs offset (kind.Unknown marker) = lit< tt
-
-  object-right : (refs : Width) (offset : ℕ) → Found-right file (objectAt file refs offset) (objectAt file One offset)
-  unfolding objectAt
-  object-right refs offset = go (ltb offset (trailerAt file)) refl
-    where
-      go : (b : Bool) → ltb offset (trailerAt file) ≡ b → Found-right file (objectAt file refs offset) (objectAt file One offset)
-      go true e = rw e (kind-right refs offset (kindOf (getD file offset 0)))
-      go false e = rw e tt
-
   -- an event without bytes
   pub plain-given : (e : Event) (offset : ℕ) → hasBytes e ≡ false → Given file e (eventAsked file e offset)
-  unfolding eventAsked hasBytes
-  plain-given (StartArray n) offset h = refl
-  plain-given (StartDictionary n) offset h = refl
-  plain-given EndCollection offset h = refl
-  plain-given (Boolean b) offset h = refl
-  plain-given Data offset h = absurd (true≢false h)
-  plain-given (Date b) offset h = refl
-  plain-given (Integer i) offset h = refl
-  plain-given (Real x) offset h = refl
-  plain-given (Nan b) offset h = refl
-  plain-given String offset h = absurd (true≢false h)
-  plain-given (Uid n) offset h = refl
+  plain-given e offset h = rw (plain-denied file e offset h) h
 
   -- what is looked up
   abbrev Looked-right : Looked → Type 0
@@ -178,7 +77,7 @@ module _ (file : List ℕ) where
   from-right : (l : Layout) (x : Entry) → Looked-right (lookFrom file l x)
   unfolding lookFrom
   from-right l Outside = tt
-  from-right l (Of offset) = in-right offset (objectAt file (l .refs) offset) (object-right (l .refs) offset)
+  from-right l (Of offset) = in-right offset (objectAt file (l .refs) offset) (object-right file (l .refs) offset)
 
   look-right : (l : Layout) (n : ℕ) → Looked-right (lookOf file l n)
   unfolding lookOf
@@ -187,6 +86,10 @@ module _ (file : List ℕ) where
       go : (b : Bool) → Looked-right (cond b (lookFrom file l (entryAt file l n)) (barred 7 []))
       go true = from-right l (entryAt file l n)
       go false = lit< tt
+
+  -- the bytes of a scalar that is looked up are given
+  pub scalar-given : (l : Layout) (n : ℕ) (e : Event) (offset : ℕ) → lookOf file l n ≡ scalar e offset → Given file e (eventAsked file e offset)
+  scalar-given l n e offset f = rw f at (look-right l n)
 
   -- an answer: the bytes of an event are given, a refusal has a reader's number
   abbrev pub Handed : Said → Type 0

@@ -14,13 +14,13 @@ use Rattle.object.specs.Object.{objectAt, byKind, utf8In, arrayIn}
 use Rattle.reader.specs.Layout.{numberAt, entryAt, given, dueAt, inArray, dueIn, dueFrom, dueOf, lookIn, lookFrom, lookOf, sourceOf}
 use Rattle.reader.specs.Machine.{startOf, enter, arrive, follow, stepOf}
 use Rattle.reader.specs.Next.{laidOut, begin, withRefs, goOn, nextOf}
-use Rattle.reader.specs.Request.{textAsked, eventAsked, askedOf, lengthSaid, scratchAfter, partSaid}
+use Rattle.reader.specs.Request.{hasBytes, textAsked, eventAsked, askedOf, lengthSaid, scratchAfter, partSaid}
 use Rattle.reader.specs.State.{openOf, innermost, memberOf, advanced, passed, entered, nextIn, closed}
 use Rattle.reader.specs.Trailer.{magic, begins, eightAt, tableOf, refSizeOf, sizesOf, trailerOf}
 use Rattle.tape.specs.Append.{putOf, putTo, fits, appendOf, appendTo}
 use Rattle.tape.specs.Code.{bytesFor, allowed}
 use Rattle.tape.specs.Seven.{groups, seven}
-use Rattle.transcribe.specs.Note.{hasBytes, fromTape, putNote, textNote, noteOf}
+use Rattle.transcribe.specs.Note.{fromTape, putNote, textNote, noteOf}
 use Rattle.transcribe.specs.Run.{Run, ended, stopped, refused, run, byNoted, byNote, bySaid, runOf, transcriptOf}
 
 -- "P10 array 1, "a", 1: magic, `A3 01 02 01 10 01 51 61 08 0C 0E`, trailer sizes 1, 1, count 3, root 0, table 16"

@@ -6,3 +6,4 @@ pub mod RunLaws
 pub mod Said
 pub mod SaidLaws
 pub mod TranscriptLaws
+pub mod Walk

@@ -1,28 +1,12 @@
 -- One event of a reader put on the tape: its bytes are asked for, then it is appended.
-use mathlib.Core.Bool.{Bool, true, false, cond}
+use mathlib.Core.Bool.{cond}
 use mathlib.Core.List.{List, []}
 use Prim.Native.Nat.{ℕ}
 use Rattle.event.specs.Meaning.{Meaning, meaningOf}
-use Rattle.event.specs.declared.Event.{Event}
-use Rattle.event.specs.declared.Event.the-variants.{StartArray, StartDictionary, EndCollection, Boolean, Data, Date, Integer, Real, Nan, String, Uid}
-use Rattle.reader.specs.Request.{TextSaid, long, refusing, askedOf, lengthSaid, scratchAfter, partSaid}
+use Rattle.reader.specs.Request.{TextSaid, long, refusing, hasBytes, askedOf, lengthSaid, scratchAfter, partSaid}
 use Rattle.reader.specs.declared.answer.Record.{Record}
 use Rattle.tape.specs.Append.{appendOf, appendTo}
 use Rattle.tape.specs.Append as tape
-
--- data and text have bytes
-unfoldable pub hasBytes : Event → Bool
-hasBytes (StartArray n) = false
-hasBytes (StartDictionary n) = false
-hasBytes EndCollection = false
-hasBytes (Boolean b) = false
-hasBytes Data = true
-hasBytes (Date b) = false
-hasBytes (Integer i) = false
-hasBytes (Real x) = false
-hasBytes (Nan b) = false
-hasBytes String = true
-hasBytes (Uid n) = false
 
 -- how many bytes of the tape are held afterwards, or a refusal with number, values and place
 pub data Noted : Type 0 where

@@ -1,5 +1,5 @@
 -- A file read from a fresh reader to its end, every event appended to a tape.
-use mathlib.Core.List.{List, []}
+use mathlib.Core.List.{List}
 use Prim.Native.Nat.{ℕ, zero, suc}
 use Rattle.reader.specs.Machine.{Said, Step, event}
 use Rattle.reader.specs.Machine as reader
@@ -48,3 +48,18 @@ runOf (suc n) file scratch tape held r =
 
 unfoldable pub transcriptOf : ℕ → List ℕ → List ℕ → List ℕ → Run
 transcriptOf budget file scratch tape = runOf budget file scratch tape 0 freshReader
+
+-- the same from a call that was made: what is left of a run, its next step given
+unfoldable pub onward : ℕ → List ℕ → List ℕ → List ℕ → ℕ → Step → Run
+onward zero file scratch tape held x = run stopped held tape scratch
+onward (suc n) file scratch tape held x = bySaid (λ s t h q. runOf n file s t h q) file scratch tape held (x .state) (x .answer)
+
+-- the ending where an event is not noted; where it is, the run goes on
+unfoldable pub endOf : Noted → End
+endOf (kept n) = stopped
+endOf (note.refused number values place) = refused number values place
+
+-- the ending where nothing is open any more: the end takes one call of the budget
+unfoldable pub finishedOf : ℕ → End
+finishedOf zero = stopped
+finishedOf (suc n) = ended

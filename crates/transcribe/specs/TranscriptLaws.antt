@@ -21,7 +21,7 @@ use Rattle.reader.specs.Machine as reader
 use Rattle.reader.specs.Meanings.{Told, means, bytesAsked, meaningAt, told, answers}
 use Rattle.reader.specs.Meanings as meanings
 use Rattle.reader.specs.Next.{nextOf}
-use Rattle.reader.specs.Request.{Asked, inFile, wide, denied, eventAsked, askedOf, lengthSaid, scratchAfter, partSaid}
+use Rattle.reader.specs.Request.{hasBytes, Asked, inFile, wide, denied, eventAsked, askedOf, lengthSaid, scratchAfter, partSaid}
 use Rattle.reader.specs.State.{maxLength, freshReader}
 use Rattle.reader.specs.declared.answer.Record.{Record}
 use Rattle.reader.specs.declared.state.Reader.{Reader}
@@ -30,7 +30,7 @@ use Rattle.unicode.proofs.Writing.{sets-append}
 use Rattle.tape.specs.Code.{bytesFor, allowed}
 use Rattle.tape.specs.Events.{tapeOf}
 use Rattle.transcribe.specs.Asking.{Given, Own, Handed, next-handed, next-short, plain-means, given-allowed}
-use Rattle.transcribe.specs.Note.{Note, hasBytes, noting, fromTape, putNote, textNote, noteOf}
+use Rattle.transcribe.specs.Note.{Note, noting, fromTape, putNote, textNote, noteOf}
 use Rattle.transcribe.specs.Note as note
 use Rattle.transcribe.specs.Run.{End, ended, stopped, refused, Run, run, byNoted, byNote, bySaid, runOf, transcriptOf}
 
@@ -109,16 +109,16 @@ module _ (file scratch tape : List ℕ) (held : ℕ) (e : Event) (offset : ℕ) 
   note-plain h = rw (h, plain-means e (bytesAsked file (eventAsked file e offset)) h .0)
 
   module _ (h : hasBytes e ≡ true) (start n : ℕ) where
-    note-file : eventAsked file e offset ≡ inFile start n → noteOf file scratch tape held handed ≡ putNote scratch tape held (meaningAt file e offset)
+    pub note-file : eventAsked file e offset ≡ inFile start n → noteOf file scratch tape held handed ≡ putNote scratch tape held (meaningAt file e offset)
     unfolding noteOf textNote lengthSaid scratchAfter partSaid meaningAt bytesAsked
     note-file d = rw (h, asked-is, d, lengthSaid, textNote, asked-is, d)
 
     module _ (d : eventAsked file e offset ≡ wide start n) where
-      note-long : leb (length (wideText file start n)) (length scratch) ≡ false → noteOf file scratch tape held handed ≡ noting (note.refused 16 [] offset) tape scratch
+      pub note-long : leb (length (wideText file start n)) (length scratch) ≡ false → noteOf file scratch tape held handed ≡ noting (note.refused 16 [] offset) tape scratch
       unfolding noteOf textNote lengthSaid scratchAfter
       note-long f = rw (h, asked-is, d, lengthSaid, f, textNote, asked-is, d, scratchAfter, f)
 
-      note-wide : leb (length (wideText file start n)) (length scratch) ≡ true → noteOf file scratch tape held handed ≡ putNote (wideText file start n ++ drop (length (wideText file start n)) scratch) tape held (meaningAt file e offset)
+      pub note-wide : leb (length (wideText file start n)) (length scratch) ≡ true → noteOf file scratch tape held handed ≡ putNote (wideText file start n ++ drop (length (wideText file start n)) scratch) tape held (meaningAt file e offset)
       unfolding noteOf textNote lengthSaid scratchAfter partSaid meaningAt bytesAsked
       note-wide f =
           let t : List ℕ = wideText file start n in

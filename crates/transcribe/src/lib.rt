@@ -1,19 +1,39 @@
-// A whole file onto a tape: a fresh reader called to its end, every event appended.
+// A whole file onto a tape: what a fresh reader answers to its end, every event appended.
 use event::Event;
-use reader::answer::Answer;
-use reader::answer::Record;
 use reader::answer::Refusal;
-use reader::request::TextLength;
-use reader::request::text_length;
-use reader::request::text_part;
+use reader::layout::Due;
+use reader::layout::Layout;
+use reader::layout::due_at;
+use reader::lookup::Look;
+use reader::lookup::look_up;
+use reader::lookup::start_of;
+use reader::request::Asked;
+use reader::state::Frame;
 use reader::state::Reader;
+use reader::state::is_open;
+use reader::trailer::TrailerRead;
+use reader::trailer::trailer_of;
 use tape::append::Appended;
-use tape::append::append;
+use tape::append::put;
+use unicode::changed::Changed;
+use unicode::utf16::utf16_to_utf8;
+ghost use mathlib.Core.Bool.{false};
+ghost use mathlib.Core.List.{[]};
 ghost use mathlib.Core.Path.{_≡_};
-ghost use Rattle.transcribe.specs.Note.{hasBytes, fromTape, noting, noteOf};
-ghost use Rattle.tape.specs.Append.{said};
-ghost use Rattle.transcribe.specs.Run.{run, transcriptOf};
-ghost use Rattle.transcribe.specs.Said.{noteSaid, endSaid};
+ghost use Prim.Native.Nat.{_≤_, _-_};
+ghost use lib.ListN.{length};
+ghost use Rattle.reader.specs.Layout.{lookOf};
+ghost use Rattle.reader.specs.Machine.{arrive};
+ghost use Rattle.reader.specs.Next.{laidOut};
+ghost use Rattle.reader.specs.Said.{numberOf, valuesOf};
+ghost use Rattle.reader.specs.State.{maxLength};
+ghost use Rattle.event.specs.Meaning.{meaningOf};
+ghost use Rattle.reader.specs.Request.{hasBytes};
+ghost use Rattle.tape.specs.Append.{said, appendOf, appendTo};
+ghost use Rattle.transcribe.specs.Note.{fromTape, noting, noteOf};
+ghost use Rattle.transcribe.specs.Run.{run, refused as refusedEnd, endOf, finishedOf, onward, transcriptOf};
+ghost use Rattle.transcribe.specs.Said.{failSaid, noteSaid, endSaid};
+ghost use Rattle.transcribe.specs.Walk.{Notable, dueNow};
 
 // How a transcript ends: at the file's end, with the budget used up, or by a refusal of the reader, the text request or the tape.
 pub enum Ending {
@@ -30,58 +50,132 @@ pub struct Transcript {
     pub held: usize,
 }
 
-// What noting one event answers: how many bytes are held then, or why nothing is.
-pub enum NoteAnswer {
-    Held(usize),
+// Why an event is not noted.
+pub enum Failure {
     Refused(Refusal, u64),
     BadText(u64),
     NoRoomForTape(u64),
+}
+
+// What noting one event answers: how many bytes are held then, or why nothing is.
+pub enum NoteAnswer {
+    Held(usize),
+    Fails(Failure),
 }
 
 // Reads at most so many events of a file and appends them to the tape from its start on.
 pub fn transcribe(file: &[u8], scratch: &mut [u8], tape: &mut [u8], budget: u64) -> Transcript
     ensures { λ r. ⌜ run (endSaid (r .ending)) (r .held) (now (tape .exit)) (now (scratch .exit)) ≡ transcriptOf budget (now (file .entry)) (now (scratch .entry)) (now (tape .entry)) ⌝ }
 {
-    let mut reader = Reader::FRESH;
+    if budget == 0 {
+        return Transcript {
+            ending: Ending::Stopped,
+            held: 0,
+        };
+    }
+    match trailer_of(file) {
+        TrailerRead::Keeps(refusal, place) => refused(refusal, place, 0),
+        TrailerRead::Ends(refusal, place) => refused(refusal, place, 0),
+        TrailerRead::Lays(layout, root) => walk(file, scratch, tape, budget, layout, root),
+    }
+}
+
+// The events from the root on. The open containers stay in this function's own memory and change there: a reader that goes by value is
+// copied whole at every call, and that would be half of the work.
+fn walk(
+    file: &[u8],
+    scratch: &mut [u8],
+    tape: &mut [u8],
+    budget: u64,
+    layout: Layout,
+    root: u64,
+) -> Transcript
+    requires { ⌜ length (now file) ≤ maxLength ⌝ }
+    ensures { λ r. ⌜ run (endSaid (r .ending)) (r .held) (now (tape .exit)) (now (scratch .exit)) ≡ onward budget (now (file .entry)) (now (scratch .entry)) (now (tape .entry)) 0 (arrive (laidOut (now (file .entry)) layout) root (lookOf (now (file .entry)) layout root)) ⌝ }
+{
+    let mut frames = [Frame::NONE; Reader::MAX_OPEN];
+    let mut depth: usize = 0;
+    let mut place = layout.table as u64;
     let mut held: usize = 0;
     let mut left = budget;
     while 0 < left {
-        let stepped = reader.next(file);
-        let answer = stepped.answer;
-        reader = stepped.reader;
         left -= 1;
-        match answer {
-            Answer::Ended => {
-                return Transcript {
-                    ending: Ending::Ended,
-                    held,
-                };
+        let top = innermost(depth);
+        match due_now(file, layout, root, depth, frames[top]) {
+            Due::Wrong => {
+                return refused(Refusal::WrongFile, 0, held);
             }
-            Answer::Refused(refusal, place) => {
-                return Transcript {
-                    ending: Ending::Refused(refusal, place),
+            Due::Close(_) => match note_plain(tape, held, Event::EndCollection) {
+                NoteAnswer::Fails(failure) => {
+                    return failed(failure, held);
+                }
+                NoteAnswer::Held(n) => {
+                    if top == 0 {
+                        return finished(left, n);
+                    }
+                    frames[top] = Frame::NONE;
+                    depth = top;
+                    held = n;
+                    continue;
+                }
+            },
+            Due::Member(object) => match look_up(file, layout, object) {
+                Look::Barred(refusal) => {
+                    return refused(refusal, place, held);
+                }
+                Look::Missing => {
+                    return refused(Refusal::WrongFile, 0, held);
+                }
+                Look::Faulty(refusal, offset) => {
+                    return refused(refusal, offset, held);
+                }
+                Look::Scalar(event, bytes, offset) => match note(
+                    file,
+                    scratch,
+                    tape,
                     held,
-                };
-            }
-            Answer::Handed(handed) => match note(file, scratch, tape, held, handed) {
-                NoteAnswer::Held(n) => held = n,
-                NoteAnswer::Refused(refusal, place) => {
-                    return Transcript {
-                        ending: Ending::Refused(refusal, place),
-                        held,
-                    };
-                }
-                NoteAnswer::BadText(place) => {
-                    return Transcript {
-                        ending: Ending::BadText(place),
-                        held,
-                    };
-                }
-                NoteAnswer::NoRoomForTape(place) => {
-                    return Transcript {
-                        ending: Ending::NoRoomForTape(place),
-                        held,
-                    };
+                    event,
+                    bytes,
+                    offset,
+                ) {
+                    NoteAnswer::Fails(failure) => {
+                        return failed(failure, held);
+                    }
+                    NoteAnswer::Held(n) => {
+                        if depth == 0 {
+                            return finished(left, n);
+                        }
+                        frames[top].position = frames[top].position + 1;
+                        place = offset;
+                        held = n;
+                        continue;
+                    }
+                },
+                Look::Container(shape, length, offset) => {
+                    if is_open(frames, depth, object as u32) {
+                        return refused(Refusal::RecursiveObject, offset, held);
+                    }
+                    if Reader::MAX_OPEN <= depth {
+                        return refused(Refusal::TooDeep, offset, held);
+                    }
+                    match note_plain(tape, held, start_of(shape, length)) {
+                        NoteAnswer::Fails(failure) => {
+                            return failed(failure, held);
+                        }
+                        NoteAnswer::Held(n) => {
+                            // With nothing open the first frame is written over at once.
+                            frames[top].position = frames[top].position + 1;
+                            frames[depth] = Frame {
+                                object: object as u32,
+                                position: 0,
+                                length: length as u32,
+                            };
+                            depth += 1;
+                            place = offset;
+                            held = n;
+                            continue;
+                        }
+                    }
                 }
             },
         }
@@ -92,23 +186,114 @@ pub fn transcribe(file: &[u8], scratch: &mut [u8], tape: &mut [u8], budget: u64)
     }
 }
 
-// One event of the file, with its bytes, behind what is held.
-fn note(file: &[u8], scratch: &mut [u8], tape: &mut [u8], held: usize, handed: Record) -> NoteAnswer
-    ensures { λ r. ⌜ noting (noteSaid r) (now (tape .exit)) (now (scratch .exit)) ≡ noteOf (now (file .entry)) (now (scratch .entry)) (now (tape .entry)) held handed ⌝ }
+// Where the innermost open container stands; with none open, where the first one will.
+fn innermost(depth: usize) -> usize
+    ensures { λ r. ⌜ r ≡ depth - 1 ⌝ }
 {
-    let event = handed.event;
-    if has_bytes(event) {
-        return match text_length(file, scratch, handed) {
-            TextLength::Refused(refusal, place) => NoteAnswer::Refused(refusal, place),
-            TextLength::Length(_) => noted(append(
-                tape,
-                held,
-                event,
-                text_part(file, scratch, handed),
-            )),
+    if depth == 0 {
+        return 0;
+    }
+    depth - 1
+}
+
+// What is due: the root where nothing is open yet, else what the innermost container says.
+fn due_now(file: &[u8], layout: Layout, root: u64, depth: usize, frame: Frame) -> Due
+    ensures { λ r. ⌜ r ≡ dueNow (now (file .entry)) layout root depth frame ⌝ }
+{
+    if depth == 0 {
+        return Due::Member(root);
+    }
+    due_at(file, layout, frame)
+}
+
+// Nothing is open any more: the end, unless the budget is used up.
+fn finished(left: u64, held: usize) -> Transcript
+    ensures { λ r. ⌜ endSaid (r .ending) ≡ finishedOf left ⌝ }
+    ensures { λ r. ⌜ r .held ≡ held ⌝ }
+{
+    if left == 0 {
+        return Transcript {
+            ending: Ending::Stopped,
+            held,
         };
     }
-    noted(append(tape, held, event, b""))
+    Transcript {
+        ending: Ending::Ended,
+        held,
+    }
+}
+
+fn refused(refusal: Refusal, place: u64, held: usize) -> Transcript
+    ensures { λ r. ⌜ endSaid (r .ending) ≡ refusedEnd (numberOf refusal) (valuesOf refusal) place ⌝ }
+    ensures { λ r. ⌜ r .held ≡ held ⌝ }
+{
+    Transcript {
+        ending: Ending::Refused(refusal, place),
+        held,
+    }
+}
+
+// An event that is not noted ends the transcript.
+fn failed(failure: Failure, held: usize) -> Transcript
+    ensures { λ r. ⌜ endSaid (r .ending) ≡ endOf (failSaid failure) ⌝ }
+    ensures { λ r. ⌜ r .held ≡ held ⌝ }
+{
+    match failure {
+        Failure::Refused(refusal, place) => refused(refusal, place, held),
+        Failure::BadText(place) => Transcript {
+            ending: Ending::BadText(place),
+            held,
+        },
+        Failure::NoRoomForTape(place) => Transcript {
+            ending: Ending::NoRoomForTape(place),
+            held,
+        },
+    }
+}
+
+// One event of the file behind what is held, with its bytes, which stand where the reader found them: they are not sought or checked again.
+fn note(
+    file: &[u8],
+    scratch: &mut [u8],
+    tape: &mut [u8],
+    held: usize,
+    event: Event,
+    bytes: Asked,
+    offset: u64,
+) -> NoteAnswer
+    requires { ⌜ Notable (now file) event bytes offset ⌝ }
+    ensures { λ r. ⌜ noting (noteSaid r) (now (tape .exit)) (now (scratch .exit)) ≡ noteOf (now (file .entry)) (now (scratch .entry)) (now (tape .entry)) held (record { event = event; offset = offset }) ⌝ }
+{
+    match bytes {
+        Asked::Denied(_) => note_plain(tape, held, event),
+        Asked::InFile(part) => {
+            let start = part.start;
+            let end = start + part.length;
+            noted(put(tape, held, event, &file[start..end]))
+        }
+        Asked::Wide(part) => {
+            let start = part.start;
+            let end = start + part.length;
+            match utf16_to_utf8(&file[start..end], scratch) {
+                Changed::Written(n) => noted(put(tape, held, event, &scratch[..n])),
+                Changed::NoRoom => NoteAnswer::Fails(Failure::Refused(
+                    Refusal::NoRoomForText,
+                    offset,
+                )),
+                // What was read as UTF-16 is UTF-16.
+                Changed::NotText => NoteAnswer::Fails(Failure::Refused(Refusal::WrongFile, 0)),
+            }
+        }
+    }
+}
+
+// An event without bytes.
+fn note_plain(tape: &mut [u8], held: usize, event: Event) -> NoteAnswer
+    requires { ⌜ hasBytes event ≡ false ⌝ }
+    ensures { λ r. ⌜ noteSaid r ≡ fromTape (appendOf (now (tape .entry)) held (meaningOf event [])) ⌝ }
+    ensures { λ _. ⌜ now (tape .exit) ≡ appendTo (now (tape .entry)) held (meaningOf event []) ⌝ }
+{
+    noted(put(tape, held, event, b""))
 }
 
 // What the tape answers is the note's answer.
@@ -117,26 +302,7 @@ fn noted(appended: Appended) -> NoteAnswer
 {
     match appended {
         Appended::Held(n) => NoteAnswer::Held(n),
-        Appended::BadText(place) => NoteAnswer::BadText(place),
-        Appended::NoRoom(place) => NoteAnswer::NoRoomForTape(place),
-    }
-}
-
-// Whether an event is data or text.
-fn has_bytes(event: Event) -> bool
-    ensures { λ r. ⌜ r ≡ hasBytes event ⌝ }
-{
-    match event {
-        Event::Data => true,
-        Event::String => true,
-        Event::StartArray(_) => false,
-        Event::StartDictionary(_) => false,
-        Event::EndCollection => false,
-        Event::Boolean(_) => false,
-        Event::Date(_) => false,
-        Event::Integer(_) => false,
-        Event::Real(_) => false,
-        Event::Nan(_) => false,
-        Event::Uid(_) => false,
+        Appended::BadText(place) => NoteAnswer::Fails(Failure::BadText(place)),
+        Appended::NoRoom(place) => NoteAnswer::Fails(Failure::NoRoomForTape(place)),
     }
 }

@@ -1,97 +1,169 @@
--- `note` asks for the bytes of data and text, and appends.
-use mathlib.Core.Path.{_≡_, refl, sym, ap, _∙_}
-use Rattle.transcribe.specs.Note.{noting, fromTape, putNote}
-use Rattle.transcribe.proofs.Turns.{note-refused, note-text, note-plain, put-is}
-use mathlib.Core.List.{List}
-use Prim.Native.Nat.{ℕ}
-use Rattle.reader.specs.Request.{askedOf, partSaid}
-use Rattle.reader.specs.Said.{textSaid}
-use Rattle.transcribe.specs.Said.{noteSaid}
+-- `note` puts an event with its bytes from where they stand: the file, or the scratch after a change from UTF-16.
+use mathlib.Core.Path.{sym, ap, _∙_}
+use native.Mathlib.Omega.{arith}
+use lib.Seq.{length-take-le}
+use Rattle.number.specs.BeLaws.{bytes-of}
+use Rattle.reader.specs.Said.{numberOf, valuesOf}
+use Rattle.transcribe.specs.Note.{fromTape}
+use Rattle.transcribe.specs.Said.{noteSaid, failSaid}
+use Rattle.transcribe.proofs.Noting.{is-plain, plain-noted, file-end, file-noted, wide-end, never-bad, long-noted, text-fits, wide-noted}
 use borrow.Author.Needs.{needs}
 use Rattle.transcribe.proofs.note.Statement.{statement}
 use Rattle.transcribe.proofs.note.Tie as tie
 
-has-bytes-requires : tie.Need-has-bytes-requires
-has-bytes-requires c κs = search needs
-
-text-length-requires : tie.Need-text-length-requires
-text-length-requires c κs = search needs
-
-enum-known-refusal : tie.Need-enum-known-refusal
-enum-known-refusal c = search needs
-
 enum-told : tie.Need-enum-told
 enum-told c = search needs
 
-text-part-requires : tie.Need-text-part-requires
-text-part-requires c κs = search needs
+note-plain-requires : tie.Need-note-plain-requires
+note-plain-requires c κs = is-plain (c .before .before .before .before .before .before .pre) (c .before .enum-told .given .1)
 
-append-requires : tie.Need-append-requires
-append-requires c κs = search needs
+enum-known-bytes : tie.Need-enum-known-bytes
+enum-known-bytes c = search needs
+
+add-end : tie.Need-add-end
+add-end c = omega (arith, file-end (c .before .before .before .before .before .before .before .pre) (c .before .before .bytes .given .1))
+
+sub-put : tie.Need-sub-put
+sub-put c = search needs
+
+part-put-start : tie.Need-part-put-start
+part-put-start c = search needs
+
+part-put-end : tie.Need-part-put-end
+part-put-end c = file-end (c .before .before .before .before .before .before .before .before .pre) (c .before .before .before .bytes .given .1)
+
+put-requires : tie.Need-put-requires
+put-requires c κs = search needs
 
 noted-requires : tie.Need-noted-requires
 noted-requires c κs = search needs
+
+enum-known-bytes-2 : tie.Need-enum-known-bytes-2
+enum-known-bytes-2 c = search needs
+
+add-end-2 : tie.Need-add-end-2
+add-end-2 c = omega (arith, wide-end (c .before .before .before .before .before .before .before .pre) (c .before .before .bytes2 .given .1))
+
+sub-utf16-to-utf8 : tie.Need-sub-utf16-to-utf8
+sub-utf16-to-utf8 c = search needs
+
+part-utf16-to-utf8-start : tie.Need-part-utf16-to-utf8-start
+part-utf16-to-utf8-start c = search needs
+
+part-utf16-to-utf8-end : tie.Need-part-utf16-to-utf8-end
+part-utf16-to-utf8-end c = wide-end (c .before .before .before .before .before .before .before .pre) (c .before .before .bytes2 .given .1)
+
+utf16-to-utf8-requires : tie.Need-utf16-to-utf8-requires
+utf16-to-utf8-requires c κs = search needs
+
+enum-known-n : tie.Need-enum-known-n
+enum-known-n c = search needs
+
+slice-reshare-prefix-put : tie.Need-slice-reshare-prefix-put
+slice-reshare-prefix-put c =
+    let u = c .before .before .before .before .before .before .utf16-to-utf8 in
+    text-fits (c .before .before .before .before .before .before .before .before .before .before .before .before .before .before .before .before .pre) (c .before .before .before .before .before .before .before .before .before .before .before .bytes2 .given .1) (c .before .before .before .before .before .before .before .before .before .before .before .before .before .before .before .before .args .scratch .now) (u .result) (u .ensures .0) _ (u .ensures .1) (c .before .before .n .given .1)
+
+slice-aggregate-put : tie.Need-slice-aggregate-put
+slice-aggregate-put c =
+    let u = c .before .before .before .before .before .before .before .utf16-to-utf8 in
+    sym (length-take-le _ _ (text-fits (c .before .before .before .before .before .before .before .before .before .before .before .before .before .before .before .before .before .pre) (c .before .before .before .before .before .before .before .before .before .before .before .before .bytes2 .given .1) (c .before .before .before .before .before .before .before .before .before .before .before .before .before .before .before .before .before .args .scratch .now) (u .result) (u .ensures .0) _ (u .ensures .1) (c .before .before .before .n .given .1)))
+
+put-requires-2 : tie.Need-put-requires-2
+put-requires-2 c κs = search needs
+
+noted-requires-2 : tie.Need-noted-requires-2
+noted-requires-2 c κs = search needs
+
+enum-told-2 : tie.Need-enum-told-2
+enum-told-2 c = search needs
+
+enum-told-3 : tie.Need-enum-told-3
+enum-told-3 c = search needs
 
 same-length : tie.Need-same-length
 same-length c = search needs
 
 returns : tie.Need-returns
-unfolding textSaid noteSaid
 returns c =
-    let a = c .before .before .before .before .before .before .before .before .before .before .before .before .args in
-    let t = c .before .before .before .before .before .text-length in
-    ap (noting _ _) (t .ensures .1) ∙ sym (note-refused (a .file .now) (a .scratch .now) (a .tape .now) (a .held) (a .handed) (sym (c .before .before .before .before .before .before .before .before .has-bytes .ensures) ∙ c .before .before .before .before .before .before .before .if1 .taken) _ _ _ (sym (t .ensures .0) ∙ ap textSaid (c .before .refusal .given .1)))
+    let a = c .before .before .before .before .before .before .before .before .before .args in
+    let p = c .before .before .note-plain in
+    plain-noted (c .before .before .before .before .before .before .before .before .before .pre) (c .before .before .before .before .enum-told .given .1) (a .scratch .now) (a .tape .now) (a .held) _ _ (p .ensures .0) (p .ensures .1)
 
 same-length-2 : tie.Need-same-length-2
 same-length-2 c = search needs
 
+returns-2 : tie.Need-returns-2
+returns-2 c =
+    let a = c .before .before .before .before .before .before .before .before .before .before .before .before .before .args in
+    let p = c .before .before .before .put in
+    file-noted (c .before .before .before .before .before .before .before .before .before .before .before .before .before .pre) (c .before .before .before .before .before .before .before .before .bytes .given .1) (a .scratch .now) (a .tape .now) (a .held) _ _ (c .noted .ensures ∙ ap fromTape (p .ensures .0)) (p .ensures .1)
+
 same-length-3 : tie.Need-same-length-3
 same-length-3 c = search needs
-
-returns-2 : tie.Need-returns-2
-unfolding textSaid
-returns-2 c =
-    let a = c .before .before .before .before .before .before .before .before .before .before .before .before .before .before .before .before .before .before .args in
-    let t = c .before .before .before .before .before .before .before .before .before .before .before .text-length in
-    let p = c .before .before .before .append in
-    put-is _ _ (a .tape .now) _ (a .held) (a .handed .event) _ _ _ (t .ensures .1) (c .before .before .before .before .text-part .ensures ∙ ap (λ (s : List ℕ). partSaid (a .file .now) s (askedOf (a .file .now) (a .handed))) (t .ensures .1)) (c .noted .ensures ∙ ap fromTape (p .ensures .0)) (p .ensures .1) ∙ sym (note-text (a .file .now) (a .scratch .now) (a .tape .now) (a .held) (a .handed) (sym (c .before .before .before .before .before .before .before .before .before .before .before .before .before .before .has-bytes .ensures) ∙ c .before .before .before .before .before .before .before .before .before .before .before .before .before .if1 .taken) _ (sym (t .ensures .0) ∙ ap textSaid (c .before .before .before .before .before .before .before .enum-told .given .1)))
-
-slice-aggregate-append : tie.Need-slice-aggregate-append
-slice-aggregate-append c = search needs
-
-append-requires-2 : tie.Need-append-requires-2
-append-requires-2 c κs = search needs
-
-noted-requires-2 : tie.Need-noted-requires-2
-noted-requires-2 c κs = search needs
 
 same-length-4 : tie.Need-same-length-4
 same-length-4 c = search needs
 
 returns-3 : tie.Need-returns-3
 returns-3 c =
-    let a = c .before .before .before .before .before .before .before .before .before .before .before .args in
-    let p = c .before .before .before .append2 in
-    put-is _ _ (a .tape .now) _ (a .held) (a .handed .event) _ _ _ refl refl (c .noted2 .ensures ∙ ap fromTape (p .ensures .0)) (p .ensures .1) ∙ sym (note-plain (a .file .now) (a .scratch .now) (a .tape .now) (a .held) (a .handed) (sym (c .before .before .before .before .before .before .before .has-bytes .ensures) ∙ c .before .before .before .before .before .before .if1 .left))
+    let a = c .before .before .before .before .before .before .before .before .before .before .before .before .before .before .before .before .before .before .before .before .before .args in
+    let p = c .before .before .before .put2 in
+    let u = c .before .before .before .before .before .before .before .before .before .before .before .utf16-to-utf8 in
+    wide-noted (c .before .before .before .before .before .before .before .before .before .before .before .before .before .before .before .before .before .before .before .before .before .pre) (c .before .before .before .before .before .before .before .before .before .before .before .before .before .before .before .before .bytes2 .given .1) (a .scratch .now) (u .result) (u .ensures .0) _ (u .ensures .1) (c .before .before .before .before .before .before .before .n .given .1) (bytes-of (a .file .now) (λ i. omega (arith, c .before .before .before .before .before .before .before .before .before .before .before .before .before .before .before .before .before .before .before .before .shared-slice-known .given i))) (a .tape .now) (a .held) _ _ (c .noted2 .ensures ∙ ap fromTape (p .ensures .0)) (p .ensures .1)
+
+same-length-5 : tie.Need-same-length-5
+same-length-5 c = search needs
+
+returns-4 : tie.Need-returns-4
+unfolding noteSaid failSaid numberOf valuesOf
+returns-4 c =
+    let a = c .before .before .before .before .before .before .before .before .before .before .before .before .before .before .args in
+    let u = c .before .before .before .before .utf16-to-utf8 in
+    long-noted (c .before .before .before .before .before .before .before .before .before .before .before .before .before .before .pre) (c .before .before .before .before .before .before .before .before .before .bytes2 .given .1) (a .scratch .now) (u .result) (u .ensures .0) _ (u .ensures .1) (c .enum-told2 .given .1) (a .tape .now) (a .held)
+
+same-length-6 : tie.Need-same-length-6
+same-length-6 c = search needs
+
+returns-5 : tie.Need-returns-5
+returns-5 c =
+    let u = c .before .before .before .before .utf16-to-utf8 in
+    absurd (never-bad (c .before .before .before .before .before .before .before .before .before .before .before .before .before .before .pre) (c .before .before .before .before .before .before .before .before .before .bytes2 .given .1) (c .before .before .before .before .before .before .before .before .before .before .before .before .before .before .args .scratch .now) (u .result) (u .ensures .0) (c .enum-told3 .given .1))
 
 pub note-spec : {M : Type 1} → statement M
 note-spec =
     tie.close
     (tie.spec
-    has-bytes-requires
-    text-length-requires
-    enum-known-refusal
     enum-told
-    text-part-requires
-    append-requires
+    note-plain-requires
+    enum-known-bytes
+    add-end
+    sub-put
+    part-put-start
+    part-put-end
+    put-requires
     noted-requires
+    enum-known-bytes-2
+    add-end-2
+    sub-utf16-to-utf8
+    part-utf16-to-utf8-start
+    part-utf16-to-utf8-end
+    utf16-to-utf8-requires
+    enum-known-n
+    slice-reshare-prefix-put
+    slice-aggregate-put
+    put-requires-2
+    noted-requires-2
+    enum-told-2
+    enum-told-3
     same-length
     returns
     same-length-2
-    same-length-3
     returns-2
-    slice-aggregate-append
-    append-requires-2
-    noted-requires-2
+    same-length-3
     same-length-4
-    returns-3)
+    returns-3
+    same-length-5
+    returns-4
+    same-length-6
+    returns-5)

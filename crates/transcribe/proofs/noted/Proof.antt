@@ -1,9 +1,9 @@
+-- `noted` keeps the tape's answer.
 use Rattle.tape.specs.Append.{said}
 use Rattle.transcribe.specs.Note.{fromTape}
-use Rattle.transcribe.specs.Said.{noteSaid}
+use Rattle.transcribe.specs.Said.{noteSaid, failSaid}
 use borrow.Author.Needs.{needs}
 use Rattle.transcribe.proofs.noted.Statement.{statement}
--- `noted` keeps the tape's answer.
 use Rattle.transcribe.proofs.noted.Tie as tie
 
 enum-known-appended : tie.Need-enum-known-appended
@@ -20,11 +20,11 @@ unfolding noteSaid fromTape said
 returns c = rw (c .before .appended .given .1)
 
 returns-2 : tie.Need-returns-2
-unfolding noteSaid fromTape said
+unfolding noteSaid failSaid fromTape said
 returns-2 c = rw (c .before .appended2 .given .1)
 
 returns-3 : tie.Need-returns-3
-unfolding noteSaid fromTape said
+unfolding noteSaid failSaid fromTape said
 returns-3 c = rw (c .before .appended3 .given .1)
 
 pub noted-spec : {M : Type 1} → statement M

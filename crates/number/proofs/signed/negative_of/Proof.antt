@@ -25,11 +25,11 @@ unfolding negativeOf
 returns c =
     let h : c .before .args .k < 2 ^ 63 = omega arith in
     let f : SFits w64 (negsuc (c .before .args .k)) = record { sfits = h } in
-    rw (toZ-pos w64 h, minus-pos, toZ-ofZ f, lt-ltb _ _ (c .if1 .taken))
+    rw (toZ-pos w64 h, minus-pos, toZ-ofZ f, lt-ltb (c .before .args .k) 0x8000_0000_0000_0000 (omega arith))
 
 returns-2 : tie.Need-returns-2
 unfolding negativeOf
-returns-2 c = rw (le-ltb _ _ (c .if1 .left))
+returns-2 c = rw (le-ltb (c .before .args .k) 0x8000_0000_0000_0000 (omega arith))
 
 pub negative-of-spec : {M : Type 1} → statement M
 negative-of-spec = tie.close (tie.spec cast-t4 sub-t5 returns returns-2)

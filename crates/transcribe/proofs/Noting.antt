@@ -1,0 +1,196 @@
+-- What noting an event does, by where its bytes stand.
+use mathlib.Core.Bool.{Bool, true, false}
+use mathlib.Core.List.{List, [], _++_}
+use mathlib.Core.Path.{_≡_, refl, sym, ap, _∙_}
+use Prim.Native.Nat.{ℕ, _+_, _-_, _≤_}
+use native.Mathlib.Omega.{arith}
+use borrow.Author.Tests.{le-ltb}
+use lib.Dec.{ltb, leb}
+use lib.ListN.{length, take, drop, length-append}
+use lib.Seq.{take-append-seam}
+use Rattle.number.specs.BeLaws.{Bytes}
+use Rattle.unicode.specs.Changed.{changedOf, changedTo}
+use Rattle.unicode.specs.Unicode.{isUtf16, toUtf8}
+use Rattle.unicode.specs.declared.changed.Changed.{Changed}
+use Rattle.unicode.specs.declared.changed.Changed.the-variants.{Written, NotText, NoRoom}
+use Rattle.event.specs.Meaning.{Meaning, meaningOf}
+use Rattle.event.specs.declared.Event.{Event}
+use Rattle.object.specs.Content.{part}
+use Rattle.object.specs.declared.read.Part.{Part}
+use Rattle.reader.specs.FoundLaws.{plain-denied}
+use Rattle.reader.specs.Meanings.{meaningAt, bytesAsked}
+use Rattle.reader.specs.Request.{Asked, inFile, wide, denied, eventAsked, askedOf, hasBytes, long, refusing, lengthSaid, scratchAfter}
+use Rattle.reader.specs.Said.{askedSaid, numberOf, valuesOf}
+use Rattle.reader.specs.State.{maxLength}
+use Rattle.reader.specs.declared.answer.Record.{Record}
+use Rattle.reader.specs.declared.answer.Refusal.{Refusal}
+use Rattle.reader.specs.declared.request.Asked.{Asked as AskedRead}
+use Rattle.reader.specs.declared.request.Asked.the-variants.{InFile, Wide, Denied}
+use Rattle.reader.proofs.Inside.{AskedIn, asked-in}
+use Rattle.reader.proofs.Wide.{is-written, no-room, is-text, filled}
+use Rattle.tape.specs.Append.{putOf, putTo, appendOf, appendTo}
+use Rattle.tape.specs.Code.{bytesFor, allowed}
+use Rattle.transcribe.specs.Asking.{Given, given-allowed}
+use Rattle.transcribe.specs.Note.{Noted, noting, fromTape, putNote, noteOf}
+use Rattle.transcribe.specs.Note as note
+use Rattle.transcribe.specs.TranscriptLaws.{wideText, note-file, note-long, note-wide}
+use Rattle.transcribe.specs.Walk.{Notable}
+
+-- what the tape takes is appended as it is put
+pub put-taken : (tape : List ℕ) (held : ℕ) (m : Meaning) → allowed m ≡ true → (putOf tape held (bytesFor m) ≡ appendOf tape held m) × (putTo tape held (bytesFor m) ≡ appendTo tape held m)
+unfolding appendOf appendTo
+put-taken tape held m a = (rw a, rw a)
+
+-- a note, from what the tape answers and what becomes of it
+put-is : (s tape t : List ℕ) (held : ℕ) (m : Meaning) (n : Noted) → allowed m ≡ true → n ≡ fromTape (putOf tape held (bytesFor m)) → t ≡ putTo tape held (bytesFor m) → noting n t s ≡ putNote s tape held m
+unfolding putNote
+put-is s tape t held m n a u v = let p = put-taken tape held m a in rw (u ∙ ap fromTape (p .0), v ∙ p .1)
+
+-- a part of a file as it is lent
+abbrev lent : List ℕ → Part → List ℕ
+lent file p = take (p .start + p .length - p .start) (drop (p .start) file)
+
+lent-is : (file : List ℕ) (p : Part) → lent file p ≡ part file (p .start) (p .length)
+lent-is file p = rw (let e : p .start + p .length - p .start ≡ p .length = omega arith in e)
+
+-- bytes that stand somewhere
+abbrev Stand : Asked → Type 0
+Stand (inFile start n) = Unit {0}
+Stand (wide start n) = Unit {0}
+Stand (denied number values) = ⊥
+
+module _ (file scratch : List ℕ) (start n offset : ℕ) where
+  -- text that fits
+  fits-is : (k : ℕ) → lengthSaid file scratch offset (wide start n) ≡ long k → (leb (length (wideText file start n)) (length scratch) ≡ true) × (length (wideText file start n) ≡ k)
+  unfolding lengthSaid
+  fits-is k h = go (leb (length (wideText file start n)) (length scratch)) refl
+    where
+      go : (b : Bool) → leb (length (wideText file start n)) (length scratch) ≡ b → (leb (length (wideText file start n)) (length scratch) ≡ true) × (length (wideText file start n) ≡ k)
+      go true f =
+          let z : long (length (wideText file start n)) ≡ long k = rw f at h in
+          (f, cc)
+      go false f =
+          let z : refusing 16 [] offset ≡ long k = rw f at h in
+          let q : _≡_ {A = ℕ} 0 1 = cc in
+          absurd (omega arith)
+
+  -- text that doesn't
+  lacks-is : lengthSaid file scratch offset (wide start n) ≡ refusing 16 [] offset → leb (length (wideText file start n)) (length scratch) ≡ false
+  unfolding lengthSaid
+  lacks-is h = go (leb (length (wideText file start n)) (length scratch)) refl
+    where
+      go : (b : Bool) → leb (length (wideText file start n)) (length scratch) ≡ b → leb (length (wideText file start n)) (length scratch) ≡ false
+      go true f =
+          let z : long (length (wideText file start n)) ≡ refusing 16 [] offset = rw f at h in
+          let q : _≡_ {A = ℕ} 0 1 = cc in
+          absurd (omega arith)
+      go false f = f
+
+module _ {file : List ℕ} {e : Event} {bytes : AskedRead} {offset : ℕ} (w : Notable file e bytes offset) where
+  abbrev handed : Record
+  handed = record { event = e; offset = offset }
+
+  short : ltb maxLength (length file) ≡ false
+  short = le-ltb _ _ (w .short)
+
+  stands : {a : Asked} → askedSaid bytes ≡ a → eventAsked file e offset ≡ a
+  stands h = sym (w .stands) ∙ h
+
+  given : {a : Asked} → askedSaid bytes ≡ a → Given file e a
+  given h = rw (stands h) at (w .given)
+
+  inside : {a : Asked} → askedSaid bytes ≡ a → AskedIn file a
+  unfolding askedOf
+  inside h = rw (short, stands h) at (asked-in file handed)
+
+  -- an event whose bytes stand somewhere has some
+  has : {a : Asked} → askedSaid bytes ≡ a → Stand a → hasBytes e ≡ true
+  has h t = go (hasBytes e) refl
+    where
+      go : (b : Bool) → hasBytes e ≡ b → hasBytes e ≡ true
+      go true k = k
+      go false k = absurd (rw (sym (stands h) ∙ plain-denied file e offset k) at t)
+
+  -- without bytes
+  module _ {r : Refusal} (h : bytes ≡ Denied r) where
+    pub is-plain : hasBytes e ≡ false
+    unfolding askedSaid
+    is-plain = given {a = denied (numberOf r) (valuesOf r)} (rw h)
+
+    pub plain-noted : (scratch tape : List ℕ) (held : ℕ) (y : Noted) (t : List ℕ) → y ≡ fromTape (appendOf tape held (meaningOf e [])) → t ≡ appendTo tape held (meaningOf e []) → noting y t scratch ≡ noteOf file scratch tape held handed
+    unfolding noteOf putNote
+    plain-noted scratch tape held y t u v = rw (is-plain, u, v)
+
+  -- bytes of the file
+  module _ {p : Part} (h : bytes ≡ InFile p) where
+    in-file : askedSaid bytes ≡ inFile (p .start) (p .length)
+    unfolding askedSaid
+    in-file = rw h
+
+    pub file-end : p .start + p .length ≤ length file
+    file-end = inside in-file
+
+    file-means : meaningOf e (lent file p) ≡ meaningAt file e offset
+    unfolding meaningAt bytesAsked
+    file-means = rw (lent-is file p, stands in-file)
+
+    pub file-noted : (scratch tape : List ℕ) (held : ℕ) (y : Noted) (t : List ℕ) → y ≡ fromTape (putOf tape held (bytesFor (meaningOf e (lent file p)))) → t ≡ putTo tape held (bytesFor (meaningOf e (lent file p))) → noting y t scratch ≡ noteOf file scratch tape held handed
+    file-noted scratch tape held y t u v =
+        put-is scratch tape t held _ y (rw (lent-is file p) (given in-file)) u v ∙
+        rw file-means (sym (note-file file scratch tape held e offset short (has in-file tt) (p .start) (p .length) (stands in-file)))
+
+  -- bytes of the file that are UTF-16
+  module _ {p : Part} (h : bytes ≡ Wide p) where
+    in-wide : askedSaid bytes ≡ wide (p .start) (p .length)
+    unfolding askedSaid
+    in-wide = rw h
+
+    pub wide-end : p .start + p .length ≤ length file
+    wide-end = inside in-wide .0
+
+    is-wide : isUtf16 (part file (p .start) (p .length)) ≡ true
+    is-wide = given in-wide .1
+
+    wide-has : hasBytes e ≡ true
+    wide-has = has in-wide tt
+
+    abbrev wide-text : List ℕ
+    wide-text = wideText file (p .start) (p .length)
+
+    module _ (scratch : List ℕ) (x : Changed) (changed : x ≡ changedOf (isUtf16 (lent file p)) (toUtf8 (lent file p)) scratch) where
+      -- what was read as UTF-16 is text
+      pub never-bad : x ≡ NotText → ⊥
+      never-bad z = is-text file scratch (p .start) (p .length) is-wide offset x changed z
+
+      module _ (s : List ℕ) (after : s ≡ changedTo (isUtf16 (lent file p)) (toUtf8 (lent file p)) scratch) where
+        scratch-is : s ≡ scratchAfter file scratch (wide (p .start) (p .length))
+        scratch-is = after ∙ filled file scratch (p .start) (p .length) is-wide
+
+        -- it is too long for the scratch
+        pub long-noted : x ≡ NoRoom → (tape : List ℕ) (held : ℕ) → noting (note.refused 16 [] offset) tape s ≡ noteOf file scratch tape held handed
+        unfolding scratchAfter
+        long-noted z tape held =
+            let f = lacks-is file scratch (p .start) (p .length) offset (no-room file scratch (p .start) (p .length) is-wide offset x changed z) in
+            rw (scratch-is, f) (sym (note-long file scratch tape held e offset short wide-has (p .start) (p .length) (stands in-wide) f))
+
+        -- or stands at its start
+        module _ {k : ℕ} (z : x ≡ Written k) where
+          fitting : (leb (length wide-text) (length scratch) ≡ true) × (length wide-text ≡ k)
+          fitting = fits-is file scratch (p .start) (p .length) offset k (is-written file scratch (p .start) (p .length) is-wide offset x changed k z)
+
+          filled-is : s ≡ wide-text ++ drop (length wide-text) scratch
+          unfolding scratchAfter
+          filled-is = scratch-is ∙ rw (fitting .0)
+
+          pub text-fits : k ≤ length s
+          text-fits = rw (filled-is, length-append, fitting .1) (omega arith)
+
+          wide-means : meaningOf e (take k s) ≡ meaningAt file e offset
+          unfolding meaningAt bytesAsked
+          wide-means = rw (filled-is, ← fitting .1, take-append-seam, stands in-wide)
+
+          pub wide-noted : Bytes file → (tape : List ℕ) (held : ℕ) (y : Noted) (t : List ℕ) → y ≡ fromTape (putOf tape held (bytesFor (meaningOf e (take k s)))) → t ≡ putTo tape held (bytesFor (meaningOf e (take k s))) → noting y t s ≡ noteOf file scratch tape held handed
+          unfolding meaningAt
+          wide-noted b tape held y t u v =
+              put-is s tape t held _ y (rw wide-means (given-allowed file b e (eventAsked file e offset) (w .given))) u v ∙
+              rw (wide-means, filled-is) (sym (note-wide file scratch tape held e offset short wide-has (p .start) (p .length) (stands in-wide) (fitting .0)))

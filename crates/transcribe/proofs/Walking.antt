@@ -1,0 +1,262 @@
+-- What one turn of the walk does to what is left of a run.
+use mathlib.Core.Bool.{true, false}
+use mathlib.Core.List.{List, []}
+use mathlib.Core.Path.{_≡_, refl, sym, ap, _∙_}
+use Prim.Native.Nat.{ℕ, zero, suc, _+_, _-_, _<_, _≤_, _^_}
+use native.Mathlib.Omega.{arith}
+use borrow.Author.Tests.{eq-eqb, ne-eqb, le-leb, lt-leb}
+use lib.Dec.{lit<}
+use lib.ListN.{length, replicate, set, getD, take}
+use lib.Seq.{set-set}
+use Rattle.number.specs.WidthLaws.{allowed}
+use Rattle.number.specs.Width.{bytesIn, widthOf}
+use Rattle.number.specs.declared.width.Size.the-variants.{Allowed}
+use Rattle.number.specs.declared.width.Width.{Width}
+use Rattle.number.specs.declared.width.Width.the-variants.{One, Two, Three, Four, Eight}
+use Rattle.event.specs.Meaning.{meaningOf}
+use Rattle.event.specs.declared.Event.{Event}
+use Rattle.event.specs.declared.Event.the-variants.{EndCollection}
+use Rattle.reader.specs.Layout.{lookOf, sourceOf}
+use Rattle.reader.specs.Machine.{Step, event, Shape, Looked, barred, missing, faulty, scalar, container, step, startOf, enter, arrive, follow}
+use Rattle.reader.specs.Machine as reader
+use Rattle.reader.specs.Next.{laidOut}
+use Rattle.reader.specs.NextLaws.{next-due}
+use Rattle.reader.specs.Request.{hasBytes, lookedBytes}
+use Rattle.reader.specs.State.{maxOpen, maxLength, noFrame, endedReader, innermost, openOf, memberOf, nextIn, advanced, passed, entered, closed}
+use Rattle.reader.specs.declared.layout.Due.{Due}
+use Rattle.reader.specs.declared.layout.Due.the-variants.{Wrong, Close, Member}
+use Rattle.reader.specs.declared.layout.Layout.{Layout}
+use Rattle.reader.specs.declared.state.Frame.{Frame}
+use Rattle.reader.specs.declared.state.Reader.{Reader}
+use Rattle.reader.proofs.Counts.{counted, numbered, measured}
+use Rattle.reader.specs.Said.{askedSaid}
+use Rattle.reader.specs.declared.request.Asked.{Asked as AskedRead}
+use Rattle.tape.specs.Append.{appendOf, appendTo}
+use Rattle.transcribe.specs.Note.{Noted, kept, noting, fromTape, noteOf}
+use Rattle.transcribe.specs.Run.{End, refused, Run, run, runOf, onward, endOf, finishedOf}
+use Rattle.transcribe.specs.RunLaws.{run-onward}
+use Rattle.transcribe.specs.Said.{failSaid}
+use Rattle.transcribe.specs.Asking.{scalar-given}
+use Rattle.transcribe.specs.Walk.{Notable, dueNow, within}
+use Rattle.transcribe.specs.declared.Failure.{Failure}
+use Rattle.transcribe.proofs.Calls.{plain-noted, start-plain, call-refused, call-kept, call-failed, run-ended}
+
+module _ (file : List ℕ) (l : Layout) (root : ℕ) where
+  -- the call that is made with these containers open
+  unfoldable pub callOf : ℕ → ℕ → List Frame → Step
+  callOf place depth frames =
+      follow (sourceOf file l) (within file l place depth frames) (dueNow file l root depth (getD frames (depth - 1) noFrame))
+
+  -- what is left of a run then
+  abbrev pub leftOf : ℕ → List ℕ → List ℕ → ℕ → ℕ → ℕ → List Frame → Run
+  leftOf n scratch tape held place depth frames = onward n file scratch tape held (callOf place depth frames)
+
+  -- at first the root is due
+  pub call-root : callOf (l .table) 0 (replicate maxOpen noFrame) ≡ arrive (laidOut file l) root (lookOf file l root)
+  unfolding callOf follow sourceOf dueNow within laidOut
+  call-root = refl
+
+  -- the innermost container goes on and another one opens; with nothing open the first frame is written over
+  over : (place depth : ℕ) (frames : List Frame) (x : Frame) → set (advanced (within file l place depth frames)) depth x ≡ set (set frames (depth - 1) (nextIn (getD frames (depth - 1) noFrame))) depth x
+  unfolding advanced innermost within
+  over place zero frames x = sym (set-set frames 0 _ x)
+  over place (suc depth) frames x = rw (ne-eqb (suc depth) 0 (λ e. omega arith))
+
+  run-open : length file ≤ maxLength → (n : ℕ) (scratch tape : List ℕ) (held place depth : ℕ) (frames : List Frame) → (depth ≡ 0 → ⊥) → depth ≤ maxOpen → runOf n file scratch tape held (within file l place depth frames) ≡ leftOf n scratch tape held place depth frames
+  unfolding within innermost callOf dueNow
+  run-open short n scratch tape held place depth frames some fits =
+      run-onward n file scratch tape held (within file l place depth frames) ∙
+      ap (onward n file scratch tape held) (next-due file (within file l place depth frames) refl some short refl fits l (allowed (l .offsets)) (allowed (l .refs)) refl refl ∙ rw (ne-eqb _ _ some))
+
+-- a turn: something is left, and the innermost frame is the one at `top`. What is left is the whole run that the walk began with
+pub record Turn : Type 0 where
+  pub file : List ℕ
+  pub layout : Layout
+  pub root : ℕ
+  pub left : ℕ
+  pub scratch : List ℕ
+  pub tape : List ℕ
+  pub held : ℕ
+  pub place : ℕ
+  pub depth : ℕ
+  pub frames : List Frame
+  pub top : ℕ
+  pub whole : Run
+  pub short : length file ≤ maxLength
+  pub few : layout .count < 2 ^ 32
+  pub some : 0 < left
+  pub fits : depth ≤ maxOpen
+  pub at : top ≡ depth - 1
+  pub is : leftOf file layout root left scratch tape held place depth frames ≡ whole
+
+module _ (x : Turn) where
+  abbrev reads : Reader
+  reads = within (x .file) (x .layout) (x .place) (x .depth) (x .frames)
+
+  abbrev pub due : Due
+  due = dueNow (x .file) (x .layout) (x .root) (x .depth) (getD (x .frames) (x .top) noFrame)
+
+  abbrev call : Step
+  call = callOf (x .file) (x .layout) (x .root) (x .place) (x .depth) (x .frames)
+
+  abbrev pub looked : ℕ → Looked
+  looked object = lookOf (x .file) (x .layout) object
+
+  -- what noting an event answers
+  abbrev pub Notes : Event → ℕ → Noted → List ℕ → List ℕ → Type 0
+  Notes e offset y t s = noting y t s ≡ noteOf (x .file) (x .scratch) (x .tape) (x .held) (record { event = e; offset = offset })
+
+  -- where the run ends, and where it goes on
+  abbrev pub Ends : End → ℕ → List ℕ → List ℕ → Type 0
+  Ends e held tape scratch = run e held tape scratch ≡ x .whole
+
+  abbrev pub Goes : List ℕ → List ℕ → ℕ → ℕ → ℕ → List Frame → Type 0
+  Goes scratch tape held place depth frames = leftOf (x .file) (x .layout) (x .root) (x .left - 1) scratch tape held place depth frames ≡ x .whole
+
+  refuses : (r : Reader) (number : ℕ) (values : List ℕ) (place : ℕ) → call ≡ step r (reader.refused number values place) → Ends (refused number values place) (x .held) (x .tape) (x .scratch)
+  refuses r number values place e = sym (call-refused (x .left) (x .file) (x .scratch) (x .tape) (x .held) (x .some) call number values place (rw e)) ∙ x .is
+
+  module _ (r : Reader) (e : Event) (offset : ℕ) (answers : call ≡ step r (event e offset)) (y : Noted) (t s : List ℕ) (notes : Notes e offset y t s) where
+    fails : (f : Failure) → y ≡ failSaid f → Ends (endOf (failSaid f)) (x .held) t s
+    fails f k = sym (rw answers (call-failed (x .left) (x .file) (x .scratch) (x .tape) (x .held) (x .some) _ e offset refl y t s notes f k)) ∙ x .is
+
+    is-kept : (m : ℕ) → y ≡ kept m → runOf (x .left - 1) (x .file) s t m r ≡ x .whole
+    is-kept m k = sym (rw answers (call-kept (x .left) (x .file) (x .scratch) (x .tape) (x .held) (x .some) _ e offset refl y t s notes m k)) ∙ x .is
+
+    -- the reader has ended
+    finishes : r ≡ endedReader → (m : ℕ) → y ≡ kept m → Ends (finishedOf (x .left - 1)) m t s
+    finishes e m k = sym (run-ended (x .left - 1) (x .file) s t m) ∙ rw (← e) (is-kept m k)
+
+    -- or has something open
+    goes : (place depth : ℕ) (frames : List Frame) → r ≡ within (x .file) (x .layout) place depth frames → (depth ≡ 0 → ⊥) → depth ≤ maxOpen → (m : ℕ) → y ≡ kept m → Goes s t m place depth frames
+    goes place depth frames e some fits m k =
+        sym (run-open (x .file) (x .layout) (x .root) (x .short) (x .left - 1) s t m place depth frames some fits) ∙ rw (← e) (is-kept m k)
+
+  pub is-wrong : due ≡ Wrong → Ends (refused 17 [] 0) (x .held) (x .tape) (x .scratch)
+  unfolding callOf follow
+  is-wrong d = refuses reads 17 [] 0 (rw (← x .at, d))
+
+  -- the innermost container ends
+  module _ (offset : ℕ) (d : due ≡ Close offset) (y : Noted) (t : List ℕ) (notes : y ≡ fromTape (appendOf (x .tape) (x .held) (meaningOf EndCollection []))) (puts : t ≡ appendTo (x .tape) (x .held) (meaningOf EndCollection [])) where
+    call-close : call ≡ step (closed reads) (event EndCollection offset)
+    unfolding callOf follow
+    call-close = rw (← x .at, d)
+
+    noted-close : Notes EndCollection offset y t (x .scratch)
+    unfolding hasBytes
+    noted-close = plain-noted (x .file) (x .scratch) (x .tape) t (x .held) EndCollection offset y refl notes puts
+
+    -- with nothing open the root is due
+    some-open : x .depth ≡ 0 → ⊥
+    unfolding dueNow
+    some-open e = let z : _≡_ {A = ℕ} 0 1 = cc in omega arith
+
+    pub close-fails : (f : Failure) → y ≡ failSaid f → Ends (endOf (failSaid f)) (x .held) t (x .scratch)
+    close-fails = fails (closed reads) EndCollection offset call-close y t (x .scratch) noted-close
+
+    pub close-finishes : x .top ≡ 0 → (m : ℕ) → y ≡ kept m → Ends (finishedOf (x .left - 1)) m t (x .scratch)
+    unfolding closed within
+    close-finishes e =
+        let z : x .depth ≡ 1 = omega (arith, x .at, some-open) in
+        finishes (closed reads) EndCollection offset call-close y t (x .scratch) noted-close (rw (eq-eqb (x .depth) 1 z))
+
+    pub close-goes : (x .top ≡ 0 → ⊥) → (m : ℕ) → y ≡ kept m → Goes (x .scratch) t m (x .place) (x .top) (set (x .frames) (x .top) noFrame)
+    unfolding closed within
+    close-goes e =
+        let z : x .depth ≡ 1 → ⊥ = λ h. e (omega (arith, x .at)) in
+        goes (closed reads) EndCollection offset call-close y t (x .scratch) noted-close (x .place) (x .top) (set (x .frames) (x .top) noFrame) (rw (ne-eqb (x .depth) 1 z, ← x .at)) e (omega (arith, x .at, x .fits))
+
+  -- a member is due
+  module _ (object : ℕ) (d : due ≡ Member object) where
+    call-member : call ≡ arrive reads object (looked object)
+    unfolding callOf follow sourceOf
+    call-member = rw (← x .at, d)
+
+    pub is-barred : (number : ℕ) (values : List ℕ) → looked object ≡ barred number values → Ends (refused number values (x .place)) (x .held) (x .tape) (x .scratch)
+    unfolding arrive within
+    is-barred number values f = refuses endedReader number values (x .place) (call-member ∙ rw f)
+
+    pub is-missing : looked object ≡ missing → Ends (refused 17 [] 0) (x .held) (x .tape) (x .scratch)
+    unfolding arrive
+    is-missing f = refuses reads 17 [] 0 (call-member ∙ rw f)
+
+    pub is-faulty : (number : ℕ) (values : List ℕ) (offset : ℕ) → looked object ≡ faulty number values offset → Ends (refused number values offset) (x .held) (x .tape) (x .scratch)
+    unfolding arrive
+    is-faulty number values offset f = refuses endedReader number values offset (call-member ∙ rw f)
+
+    module _ (e : Event) (offset : ℕ) (f : looked object ≡ scalar e offset) (y : Noted) (t s : List ℕ) (notes : Notes e offset y t s) where
+      call-scalar : call ≡ step (passed reads offset) (event e offset)
+      unfolding arrive
+      call-scalar = rw (call-member, f)
+
+      pub scalar-fails : (f : Failure) → y ≡ failSaid f → Ends (endOf (failSaid f)) (x .held) t s
+      scalar-fails = fails (passed reads offset) e offset call-scalar y t s notes
+
+      pub scalar-finishes : x .depth ≡ 0 → (m : ℕ) → y ≡ kept m → Ends (finishedOf (x .left - 1)) m t s
+      unfolding passed within
+      scalar-finishes z = finishes (passed reads offset) e offset call-scalar y t s notes (rw (eq-eqb (x .depth) 0 z))
+
+      pub scalar-goes : (x .depth ≡ 0 → ⊥) → (m : ℕ) → y ≡ kept m → Goes s t m offset (x .depth) (set (x .frames) (x .top) (nextIn (getD (x .frames) (x .top) noFrame)))
+      unfolding passed within advanced innermost
+      scalar-goes z =
+          goes (passed reads offset) e offset call-scalar y t s notes offset (x .depth) (set (x .frames) (x .top) (nextIn (getD (x .frames) (x .top) noFrame))) (rw (ne-eqb (x .depth) 0 z, ← x .at)) z (x .fits)
+
+    -- a container
+    module _ (shape : Shape) (k offset : ℕ) (f : looked object ≡ container shape k offset) where
+      call-enter : call ≡ enter reads object shape k offset
+      unfolding arrive
+      call-enter = rw (call-member, f)
+
+      pub is-open-now : memberOf (take (x .depth) (x .frames)) object ≡ true → Ends (refused 14 [] offset) (x .held) (x .tape) (x .scratch)
+      unfolding enter openOf within
+      is-open-now b = refuses endedReader 14 [] offset (call-enter ∙ rw b)
+
+      module _ (b : memberOf (take (x .depth) (x .frames)) object ≡ false) where
+        pub is-deep : maxOpen ≤ x .depth → Ends (refused 15 [] offset) (x .held) (x .tape) (x .scratch)
+        unfolding enter openOf within
+        is-deep h = refuses endedReader 15 [] offset (call-enter ∙ rw (b, le-leb _ _ h))
+
+        module _ (h : x .depth < maxOpen) (e : Event) (starts : e ≡ startOf shape k) (y : Noted) (t : List ℕ) (notes : y ≡ fromTape (appendOf (x .tape) (x .held) (meaningOf e []))) (puts : t ≡ appendTo (x .tape) (x .held) (meaningOf e [])) where
+          call-start : call ≡ step (entered reads object k offset) (event e offset)
+          unfolding enter openOf within
+          call-start = rw (call-enter, b, lt-leb _ _ h, starts)
+
+          noted-start : Notes e offset y t (x .scratch)
+          noted-start = plain-noted (x .file) (x .scratch) (x .tape) t (x .held) e offset y (rw starts (start-plain shape k)) notes puts
+
+          pub enter-fails : (f : Failure) → y ≡ failSaid f → Ends (endOf (failSaid f)) (x .held) t (x .scratch)
+          enter-fails = fails (entered reads object k offset) e offset call-start y t (x .scratch) noted-start
+
+          pub enter-goes : (m : ℕ) → y ≡ kept m → Goes (x .scratch) t m offset (x .depth + 1) (set (set (x .frames) (x .top) (nextIn (getD (x .frames) (x .top) noFrame))) (x .depth) (record { object = object; position = 0; length = k }))
+          unfolding entered within
+          enter-goes =
+              let g : Frame = record { object = object; position = 0; length = k } in
+              goes (entered reads object k offset) e offset call-start y t (x .scratch) noted-start offset (x .depth + 1) _
+              (ap (within (x .file) (x .layout) offset (x .depth + 1)) (rw (x .at) (over (x .file) (x .layout) (x .root) (x .place) (x .depth) (x .frames) g)))
+              (λ e. omega arith)
+              (omega arith)
+
+  -- with its bytes an event that was looked up can be noted
+  pub notable : (object : ℕ) (e : Event) (bytes : AskedRead) (offset : ℕ) → looked object ≡ scalar e offset → askedSaid bytes ≡ lookedBytes (x .file) (looked object) → Notable (x .file) e bytes offset
+  unfolding lookedBytes
+  notable object e bytes offset f b =
+      record { short = x .short; stands = b ∙ rw f; given = scalar-given (x .file) (x .layout) object e offset f }
+
+  -- a container's number and length stay within 32 bits
+  pub short-number : (object : ℕ) (shape : Shape) (k offset : ℕ) → looked object ≡ container shape k offset → object < 2 ^ 32
+  short-number object shape k offset f = omega (arith, x .few, numbered (x .file) (x .layout) object shape k offset f)
+
+  pub short-length : (object : ℕ) (shape : Shape) (k offset : ℕ) → looked object ≡ container shape k offset → k < 2 ^ 32
+  short-length object shape k offset f = omega (arith, x .short, measured (x .file) (x .layout) object shape k offset f)
+
+  -- the innermost frame's position can be counted on; with nothing open no frame was counted yet
+  pub counts : (object : ℕ) → due ≡ Member object → (x .depth ≡ 0 → x .frames ≡ replicate maxOpen noFrame) → getD (x .frames) (x .top) noFrame .position + 1 < 2 ^ 32
+  unfolding dueNow
+  counts object d first = go (x .depth) refl
+    where
+      go : (n : ℕ) → x .depth ≡ n → getD (x .frames) (x .top) noFrame .position + 1 < 2 ^ 32
+      go zero e =
+          let z : x .top ≡ 0 = omega (arith, x .at) in
+          rw (first e, z) (lit< tt)
+      go (suc n) e =
+          counted (x .file) (x .short) object (x .layout) (getD (x .frames) (x .top) noFrame) (rw (ne-eqb (x .depth) 0 (λ z. omega arith)) at d)

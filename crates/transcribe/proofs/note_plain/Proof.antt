@@ -1,0 +1,35 @@
+-- `note_plain` puts an event without bytes, which the tape always takes.
+use mathlib.Core.List.{[]}
+use mathlib.Core.Path.{ap, _∙_}
+use Rattle.event.specs.Meaning.{meaningOf}
+use Rattle.transcribe.specs.Asking.{plain-means}
+use Rattle.transcribe.specs.Note.{fromTape}
+use Rattle.transcribe.proofs.Noting.{put-taken}
+use borrow.Author.Needs.{needs}
+use Rattle.transcribe.proofs.note_plain.Statement.{statement}
+use Rattle.transcribe.proofs.note_plain.Tie as tie
+
+slice-aggregate-put : tie.Need-slice-aggregate-put
+slice-aggregate-put c = search needs
+
+put-requires : tie.Need-put-requires
+put-requires c κs = search needs
+
+noted-requires : tie.Need-noted-requires
+noted-requires c κs = search needs
+
+same-length : tie.Need-same-length
+same-length c = search needs
+
+returns : tie.Need-returns
+returns c =
+    let a = c .before .before .before .before .before .before .before .args in
+    let p = c .before .before .before .put in
+    let t = put-taken (a .tape .now) (a .held) (meaningOf (a .event) []) (plain-means (a .event) [] (c .before .before .before .before .before .before .before .pre) .1) in (
+      c .noted .ensures ∙ ap fromTape (p .ensures .0 ∙ t .0),
+      p .ensures .1 ∙ t .1,
+    )
+
+pub note-plain-spec : {M : Type 1} → statement M
+note-plain-spec =
+    tie.close (tie.spec slice-aggregate-put put-requires noted-requires same-length returns)

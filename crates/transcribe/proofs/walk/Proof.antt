@@ -1,0 +1,505 @@
+-- `walk` is what is left of the run from its first call: every turn takes one event of it.
+use mathlib.Core.Path.{_≡_, refl, sym, ap, _∙_}
+use Prim.Native.Nat.{_≤_}
+use native.Mathlib.Omega.{arith}
+use borrow.Author.Needs.{needs}
+use lib.ListN.{length, replicate}
+use lib.Dec.{lit≤}
+use Rattle.reader.specs.Machine.{arrive, scalar, container}
+use Rattle.reader.specs.Said.{shapeSaid, numberOf, valuesOf, lookSaid, lookBytes}
+use Rattle.reader.specs.State.{nextIn, maxOpen, noFrame}
+use Rattle.reader.specs.declared.layout.Due.the-variants.{Close, Member}
+use Rattle.reader.specs.Request.{hasBytes}
+use Rattle.reader.specs.Layout.{lookOf}
+use Rattle.reader.specs.Next.{laidOut}
+use Rattle.transcribe.specs.Said.{noteSaid, endSaid}
+use Rattle.transcribe.specs.Run.{onward}
+use Rattle.transcribe.proofs.Walking.{leftOf, due, looked, short-number, short-length, Turn, call-root, is-wrong, close-fails, close-finishes, close-goes, is-barred, is-missing, is-faulty, notable, counts, scalar-fails, scalar-finishes, scalar-goes, is-open-now, is-deep, enter-fails, enter-goes}
+use Rattle.transcribe.proofs.Calls.{start-plain}
+use Rattle.transcribe.proofs.walk.Statement.{statement}
+use Rattle.transcribe.proofs.walk.Tie as tie
+
+abbrev Inv-loop : tie.InvT-loop
+Inv-loop file scratch₀ tape₀ budget layout root frames₀ depth₀ place₀ held₀ left₀ scratch tape frames depth place held left = (length scratch ≡ length scratch₀) × (length tape ≡ length tape₀) × (depth ≤ maxOpen) × (depth ≡ 0 → frames ≡ replicate maxOpen noFrame) × (leftOf file layout root left scratch tape held place depth frames ≡ onward budget file scratch₀ tape₀ 0 (arrive (laidOut file layout) root (lookOf file layout root)))
+
+abbrev μ-loop : tie.MeasureT-loop
+μ-loop file scratch₀ tape₀ budget layout root frames₀ depth₀ place₀ held₀ left₀ scratch tape frames depth place held left = left
+
+-- the turn, as it stands once what is due is known
+abbrev turn : tie.After-due-now Inv-loop μ-loop → Turn
+turn c =
+    let a = c .before .before .before .before .before .before .before .before .before .args in
+    let l = c .before .before .before .before .loop in
+    record {
+      file = a .file .now;
+      layout = a .layout;
+      root = a .root;
+      left = l .left;
+      scratch = l .scratch;
+      tape = l .tape;
+      held = l .held;
+      place = l .place;
+      depth = l .depth;
+      frames = l .frames;
+      top = c .before .before .innermost .result;
+      whole = onward (a .budget) (a .file .now) (a .scratch .now) (a .tape .now) 0 (arrive (laidOut (a .file .now) (a .layout)) (a .root) (lookOf (a .file .now) (a .layout) (a .root)));
+      short = c .before .before .before .before .before .before .before .before .before .pre;
+      few = omega arith;
+      some = c .before .before .before .loop-test .taken;
+      fits = l .inv .2;
+      at = c .before .before .innermost .ensures;
+      is = l .inv .4;
+    }
+
+-- what is due: the innermost container's end, or a member
+due-close : (c : tie.After-enum-told2 Inv-loop μ-loop) → due (turn (c .before .before)) ≡ Close (c .enum-told2 .given .0 .0)
+due-close c = sym (c .before .before .due-now .ensures) ∙ c .enum-told2 .given .1
+
+due-member : (c : tie.After-object Inv-loop μ-loop) → due (turn (c .before .before)) ≡ Member (c .object .given .0 .0)
+due-member c = sym (c .before .before .due-now .ensures) ∙ c .object .given .1
+
+-- what a member is found to be: a scalar, or a container
+found-scalar : (c : tie.After-event Inv-loop μ-loop) → looked (turn (c .before .before .before .before .before .before)) (c .before .before .before .before .object .given .0 .0) ≡ scalar (c .event .given .0 .0) (c .event .given .0 .1 .1 .0)
+unfolding lookSaid
+found-scalar c = sym (c .before .before .look-up .ensures .0) ∙ ap lookSaid (c .event .given .1)
+
+found-container : (c : tie.After-shape Inv-loop μ-loop) → looked (turn (c .before .before .before .before .before .before)) (c .before .before .before .before .object .given .0 .0) ≡ container (shapeSaid (c .shape .given .0 .0)) (c .shape .given .0 .1 .0) (c .shape .given .0 .1 .1 .0)
+unfolding lookSaid
+found-container c = sym (c .before .before .look-up .ensures .0) ∙ ap lookSaid (c .shape .given .1)
+
+cast-place : tie.Need-cast-place Inv-loop μ-loop
+cast-place c = search needs
+
+loop-holds : tie.Need-loop-holds Inv-loop μ-loop
+loop-holds c = (refl, refl, lit≤ tt, λ e. refl, ap (onward (c .before .before .before .before .args .budget) (c .before .before .before .before .args .file .now) (c .before .before .before .before .args .scratch .now) (c .before .before .before .before .args .tape .now) 0) (call-root (c .before .before .before .before .args .file .now) (c .before .before .before .before .args .layout) (c .before .before .before .before .args .root)))
+
+sub-left : tie.Need-sub-left Inv-loop μ-loop
+sub-left c = search needs
+
+innermost-requires : tie.Need-innermost-requires Inv-loop μ-loop
+innermost-requires c κs = search needs
+
+mul-due-now : tie.Need-mul-due-now Inv-loop μ-loop
+mul-due-now c = search needs
+
+array-copy-out-due-now : tie.Need-array-copy-out-due-now Inv-loop μ-loop
+array-copy-out-due-now c = search needs
+
+due-now-requires : tie.Need-due-now-requires Inv-loop μ-loop
+due-now-requires c κs = search needs
+
+enum-told : tie.Need-enum-told Inv-loop μ-loop
+enum-told c = search needs
+
+refused-requires : tie.Need-refused-requires Inv-loop μ-loop
+refused-requires c κs = search needs
+
+same-length : tie.Need-same-length Inv-loop μ-loop
+same-length c = c .before .before .before .before .before .before .before .loop .inv .0
+
+same-length-2 : tie.Need-same-length-2 Inv-loop μ-loop
+same-length-2 c = c .before .before .before .before .before .before .before .loop .inv .1
+
+returns : tie.Need-returns Inv-loop μ-loop
+unfolding numberOf valuesOf
+returns c = rw (c .refused .ensures .0, c .refused .ensures .1) (is-wrong (turn (c .before .before .before)) (sym (c .before .before .before .due-now .ensures) ∙ c .before .enum-told .given .1))
+
+enum-told-2 : tie.Need-enum-told-2 Inv-loop μ-loop
+enum-told-2 c = search needs
+
+note-plain-requires : tie.Need-note-plain-requires Inv-loop μ-loop
+unfolding hasBytes
+note-plain-requires c κs = refl
+
+enum-known-failure : tie.Need-enum-known-failure Inv-loop μ-loop
+enum-known-failure c = search needs
+
+failed-requires : tie.Need-failed-requires Inv-loop μ-loop
+failed-requires c κs = search needs
+
+same-length-3 : tie.Need-same-length-3 Inv-loop μ-loop
+same-length-3 c = c .before .before .before .before .before .before .before .before .before .before .before .before .before .before .loop .inv .0
+
+same-length-4 : tie.Need-same-length-4 Inv-loop μ-loop
+same-length-4 c = c .before .before .before .before .before .before .note-plain .kept .0 ∙ c .before .before .before .before .before .before .before .before .before .before .before .before .before .before .loop .inv .1
+
+returns-2 : tie.Need-returns-2 Inv-loop μ-loop
+unfolding noteSaid
+returns-2 c = rw (c .failed .ensures .0, c .failed .ensures .1) (close-fails (turn (c .before .before .before .before .before .before .before .before .before .before)) _ (due-close (c .before .before .before .before .before .before .before .before)) _ _ (c .before .before .before .before .before .before .note-plain .ensures .0) (c .before .before .before .before .before .before .note-plain .ensures .1) _ (ap noteSaid (c .before .before .failure .given .1)))
+
+enum-known-n : tie.Need-enum-known-n Inv-loop μ-loop
+enum-known-n c = search needs
+
+finished-requires : tie.Need-finished-requires Inv-loop μ-loop
+finished-requires c κs = search needs
+
+same-length-5 : tie.Need-same-length-5 Inv-loop μ-loop
+same-length-5 c = c .before .before .before .before .before .before .before .before .before .before .before .before .before .before .before .loop .inv .0
+
+same-length-6 : tie.Need-same-length-6 Inv-loop μ-loop
+same-length-6 c = c .before .before .before .before .before .before .before .note-plain .kept .0 ∙ c .before .before .before .before .before .before .before .before .before .before .before .before .before .before .before .loop .inv .1
+
+returns-3 : tie.Need-returns-3 Inv-loop μ-loop
+unfolding noteSaid
+returns-3 c = rw (c .finished .ensures .0, c .finished .ensures .1) (close-finishes (turn (c .before .before .before .before .before .before .before .before .before .before .before)) _ (due-close (c .before .before .before .before .before .before .before .before .before)) _ _ (c .before .before .before .before .before .before .before .note-plain .ensures .0) (c .before .before .before .before .before .before .before .note-plain .ensures .1) (c .before .if1 .taken) _ (ap noteSaid (c .before .before .before .n .given .1)))
+
+mul-frames : tie.Need-mul-frames Inv-loop μ-loop
+mul-frames c = search needs
+
+array-set-from-frames : tie.Need-array-set-from-frames Inv-loop μ-loop
+array-set-from-frames c = search needs
+
+loop-less : tie.Need-loop-less Inv-loop μ-loop
+loop-less c = search needs
+
+loop-again : tie.Need-loop-again Inv-loop μ-loop
+unfolding noteSaid
+loop-again c =
+    let x = turn (c .before .before .before .before .before .before .before .before .before .before) in (
+      c .before .before .before .before .before .before .before .before .before .before .before .before .before .before .loop .inv .0,
+      c .before .before .before .before .before .before .note-plain .kept .0 ∙ c .before .before .before .before .before .before .before .before .before .before .before .before .before .before .loop .inv .1,
+      omega (arith, x .at, x .fits),
+      λ e. absurd (c .if1 .left e),
+      close-goes x _ (due-close (c .before .before .before .before .before .before .before .before)) _ _ (c .before .before .before .before .before .before .note-plain .ensures .0) (c .before .before .before .before .before .before .note-plain .ensures .1) (c .if1 .left) _ (ap noteSaid (c .before .before .n .given .1)),
+    )
+
+enum-known-object : tie.Need-enum-known-object Inv-loop μ-loop
+enum-known-object c = search needs
+
+look-up-requires : tie.Need-look-up-requires Inv-loop μ-loop
+look-up-requires c κs = search needs
+
+enum-known-refusal : tie.Need-enum-known-refusal Inv-loop μ-loop
+enum-known-refusal c = search needs
+
+refused-requires-2 : tie.Need-refused-requires-2 Inv-loop μ-loop
+refused-requires-2 c κs = search needs
+
+same-length-7 : tie.Need-same-length-7 Inv-loop μ-loop
+same-length-7 c = c .before .before .before .before .before .before .before .before .before .before .before .before .loop .inv .0
+
+same-length-8 : tie.Need-same-length-8 Inv-loop μ-loop
+same-length-8 c = c .before .before .before .before .before .before .before .before .before .before .before .before .loop .inv .1
+
+returns-4 : tie.Need-returns-4 Inv-loop μ-loop
+unfolding lookSaid
+returns-4 c = rw (c .refused2 .ensures .0, c .refused2 .ensures .1) (is-barred (turn (c .before .before .before .before .before .before .before .before)) _ (due-member (c .before .before .before .before .before .before)) _ _ (sym (c .before .before .before .before .look-up .ensures .0) ∙ ap lookSaid (c .before .before .refusal .given .1)))
+
+enum-told-3 : tie.Need-enum-told-3 Inv-loop μ-loop
+enum-told-3 c = search needs
+
+refused-requires-3 : tie.Need-refused-requires-3 Inv-loop μ-loop
+refused-requires-3 c κs = search needs
+
+same-length-9 : tie.Need-same-length-9 Inv-loop μ-loop
+same-length-9 c = c .before .before .before .before .before .before .before .before .before .before .before .loop .inv .0
+
+same-length-10 : tie.Need-same-length-10 Inv-loop μ-loop
+same-length-10 c = c .before .before .before .before .before .before .before .before .before .before .before .loop .inv .1
+
+returns-5 : tie.Need-returns-5 Inv-loop μ-loop
+unfolding lookSaid numberOf valuesOf
+returns-5 c = rw (c .refused3 .ensures .0, c .refused3 .ensures .1) (is-missing (turn (c .before .before .before .before .before .before .before)) _ (due-member (c .before .before .before .before .before)) (sym (c .before .before .before .look-up .ensures .0) ∙ ap lookSaid (c .before .enum-told3 .given .1)))
+
+enum-known-refusal-2 : tie.Need-enum-known-refusal-2 Inv-loop μ-loop
+enum-known-refusal-2 c = search needs
+
+refused-requires-4 : tie.Need-refused-requires-4 Inv-loop μ-loop
+refused-requires-4 c κs = search needs
+
+same-length-11 : tie.Need-same-length-11 Inv-loop μ-loop
+same-length-11 c = c .before .before .before .before .before .before .before .before .before .before .before .before .loop .inv .0
+
+same-length-12 : tie.Need-same-length-12 Inv-loop μ-loop
+same-length-12 c = c .before .before .before .before .before .before .before .before .before .before .before .before .loop .inv .1
+
+returns-6 : tie.Need-returns-6 Inv-loop μ-loop
+unfolding lookSaid
+returns-6 c = rw (c .refused4 .ensures .0, c .refused4 .ensures .1) (is-faulty (turn (c .before .before .before .before .before .before .before .before)) _ (due-member (c .before .before .before .before .before .before)) _ _ _ (sym (c .before .before .before .before .look-up .ensures .0) ∙ ap lookSaid (c .before .before .refusal2 .given .1)))
+
+enum-known-event : tie.Need-enum-known-event Inv-loop μ-loop
+enum-known-event c = search needs
+
+note-requires : tie.Need-note-requires Inv-loop μ-loop
+unfolding lookBytes
+note-requires c κs = notable (turn (c .before .before .before .before .before .before .before .before .before)) _ _ _ _ (found-scalar (c .before .before .before)) (sym (ap lookBytes (c .before .before .before .event .given .1)) ∙ c .before .before .before .before .before .look-up .ensures .1)
+
+enum-known-failure-2 : tie.Need-enum-known-failure-2 Inv-loop μ-loop
+enum-known-failure-2 c = search needs
+
+failed-requires-2 : tie.Need-failed-requires-2 Inv-loop μ-loop
+failed-requires-2 c κs = search needs
+
+same-length-13 : tie.Need-same-length-13 Inv-loop μ-loop
+same-length-13 c = c .before .before .before .before .before .before .before .before .note .kept .1 .0 ∙ c .before .before .before .before .before .before .before .before .before .before .before .before .before .before .before .before .before .before .before .before .before .before .loop .inv .0
+
+same-length-14 : tie.Need-same-length-14 Inv-loop μ-loop
+same-length-14 c = c .before .before .before .before .before .before .before .before .note .kept .1 .1 .0 ∙ c .before .before .before .before .before .before .before .before .before .before .before .before .before .before .before .before .before .before .before .before .before .before .loop .inv .1
+
+returns-7 : tie.Need-returns-7 Inv-loop μ-loop
+unfolding noteSaid
+returns-7 c = rw (c .failed2 .ensures .0, c .failed2 .ensures .1) (scalar-fails (turn (c .before .before .before .before .before .before .before .before .before .before .before .before .before .before .before .before .before .before)) _ (due-member (c .before .before .before .before .before .before .before .before .before .before .before .before .before .before .before .before)) _ _ (found-scalar (c .before .before .before .before .before .before .before .before .before .before .before .before)) _ _ _ (c .before .before .before .before .before .before .before .before .note .ensures) _ (ap noteSaid (c .before .before .failure2 .given .1)))
+
+enum-known-n-2 : tie.Need-enum-known-n-2 Inv-loop μ-loop
+enum-known-n-2 c = search needs
+
+finished-requires-2 : tie.Need-finished-requires-2 Inv-loop μ-loop
+finished-requires-2 c κs = search needs
+
+same-length-15 : tie.Need-same-length-15 Inv-loop μ-loop
+same-length-15 c = c .before .before .before .before .before .before .before .before .before .note .kept .1 .0 ∙ c .before .before .before .before .before .before .before .before .before .before .before .before .before .before .before .before .before .before .before .before .before .before .before .loop .inv .0
+
+same-length-16 : tie.Need-same-length-16 Inv-loop μ-loop
+same-length-16 c = c .before .before .before .before .before .before .before .before .before .note .kept .1 .1 .0 ∙ c .before .before .before .before .before .before .before .before .before .before .before .before .before .before .before .before .before .before .before .before .before .before .before .loop .inv .1
+
+returns-8 : tie.Need-returns-8 Inv-loop μ-loop
+unfolding noteSaid
+returns-8 c = rw (c .finished2 .ensures .0, c .finished2 .ensures .1) (scalar-finishes (turn (c .before .before .before .before .before .before .before .before .before .before .before .before .before .before .before .before .before .before .before)) _ (due-member (c .before .before .before .before .before .before .before .before .before .before .before .before .before .before .before .before .before)) _ _ (found-scalar (c .before .before .before .before .before .before .before .before .before .before .before .before .before)) _ _ _ (c .before .before .before .before .before .before .before .before .before .note .ensures) (c .before .if2 .taken) _ (ap noteSaid (c .before .before .before .n2 .given .1)))
+
+mul-frames-2 : tie.Need-mul-frames-2 Inv-loop μ-loop
+mul-frames-2 c = search needs
+
+element-copy-out-frames : tie.Need-element-copy-out-frames Inv-loop μ-loop
+element-copy-out-frames c = search needs
+
+add-frames : tie.Need-add-frames Inv-loop μ-loop
+add-frames c = omega (arith, counts (turn (c .before .before .before .before .before .before .before .before .before .before .before .before .before .before .before .before .before .before)) _ (due-member (c .before .before .before .before .before .before .before .before .before .before .before .before .before .before .before .before)) (c .before .before .before .before .before .before .before .before .before .before .before .before .before .before .before .before .before .before .before .before .before .before .loop .inv .3))
+
+mul-frames-3 : tie.Need-mul-frames-3 Inv-loop μ-loop
+mul-frames-3 c = search needs
+
+way-write-given-frames : tie.Need-way-write-given-frames Inv-loop μ-loop
+way-write-given-frames c = search needs
+
+loop-less-2 : tie.Need-loop-less-2 Inv-loop μ-loop
+loop-less-2 c = search needs
+
+loop-again-2 : tie.Need-loop-again-2 Inv-loop μ-loop
+unfolding noteSaid nextIn
+loop-again-2 c = (
+  c .before .before .before .before .before .before .before .before .before .note .kept .1 .0 ∙ c .before .before .before .before .before .before .before .before .before .before .before .before .before .before .before .before .before .before .before .before .before .before .before .loop .inv .0,
+  c .before .before .before .before .before .before .before .before .before .note .kept .1 .1 .0 ∙ c .before .before .before .before .before .before .before .before .before .before .before .before .before .before .before .before .before .before .before .before .before .before .before .loop .inv .1,
+  c .before .before .before .before .before .before .before .before .before .before .before .before .before .before .before .before .before .before .before .before .before .before .before .loop .inv .2,
+  λ e. absurd (c .before .if2 .left e),
+  scalar-goes (turn (c .before .before .before .before .before .before .before .before .before .before .before .before .before .before .before .before .before .before .before)) _ (due-member (c .before .before .before .before .before .before .before .before .before .before .before .before .before .before .before .before .before)) _ _ (found-scalar (c .before .before .before .before .before .before .before .before .before .before .before .before .before)) _ _ _ (c .before .before .before .before .before .before .before .before .before .note .ensures) (c .before .if2 .left) _ (ap noteSaid (c .before .before .before .n2 .given .1)),
+)
+
+enum-known-shape : tie.Need-enum-known-shape Inv-loop μ-loop
+enum-known-shape c = search needs
+
+cast-is-open : tie.Need-cast-is-open Inv-loop μ-loop
+cast-is-open c = omega (arith, short-number (turn (c .before .before .before .before .before .before .before)) _ _ _ _ (found-container (c .before)))
+
+is-open-requires : tie.Need-is-open-requires Inv-loop μ-loop
+is-open-requires c κs = search needs
+
+refused-requires-5 : tie.Need-refused-requires-5 Inv-loop μ-loop
+refused-requires-5 c κs = search needs
+
+same-length-17 : tie.Need-same-length-17 Inv-loop μ-loop
+same-length-17 c = c .before .before .before .before .before .before .before .before .before .before .before .before .before .before .loop .inv .0
+
+same-length-18 : tie.Need-same-length-18 Inv-loop μ-loop
+same-length-18 c = c .before .before .before .before .before .before .before .before .before .before .before .before .before .before .loop .inv .1
+
+returns-9 : tie.Need-returns-9 Inv-loop μ-loop
+unfolding numberOf valuesOf
+returns-9 c = rw (c .refused5 .ensures .0, c .refused5 .ensures .1) (is-open-now (turn (c .before .before .before .before .before .before .before .before .before .before)) _ (due-member (c .before .before .before .before .before .before .before .before)) _ _ _ (found-container (c .before .before .before .before)) (sym (c .before .before .is-open .ensures) ∙ c .before .if3 .taken))
+
+refused-requires-6 : tie.Need-refused-requires-6 Inv-loop μ-loop
+refused-requires-6 c κs = search needs
+
+same-length-19 : tie.Need-same-length-19 Inv-loop μ-loop
+same-length-19 c = c .before .before .before .before .before .before .before .before .before .before .before .before .before .before .before .loop .inv .0
+
+same-length-20 : tie.Need-same-length-20 Inv-loop μ-loop
+same-length-20 c = c .before .before .before .before .before .before .before .before .before .before .before .before .before .before .before .loop .inv .1
+
+returns-10 : tie.Need-returns-10 Inv-loop μ-loop
+unfolding numberOf valuesOf
+returns-10 c = rw (c .refused6 .ensures .0, c .refused6 .ensures .1) (is-deep (turn (c .before .before .before .before .before .before .before .before .before .before .before)) _ (due-member (c .before .before .before .before .before .before .before .before .before)) _ _ _ (found-container (c .before .before .before .before .before)) (sym (c .before .before .before .is-open .ensures) ∙ c .before .before .if3 .left) (c .before .if4 .taken))
+
+start-of-requires : tie.Need-start-of-requires Inv-loop μ-loop
+start-of-requires c κs = search needs
+
+note-plain-requires-2 : tie.Need-note-plain-requires-2 Inv-loop μ-loop
+note-plain-requires-2 c κs = rw (c .start-of .ensures) (start-plain _ _)
+
+enum-known-failure-3 : tie.Need-enum-known-failure-3 Inv-loop μ-loop
+enum-known-failure-3 c = search needs
+
+failed-requires-3 : tie.Need-failed-requires-3 Inv-loop μ-loop
+failed-requires-3 c κs = search needs
+
+same-length-21 : tie.Need-same-length-21 Inv-loop μ-loop
+same-length-21 c = c .before .before .before .before .before .before .before .before .before .before .before .before .before .before .before .before .before .before .before .before .before .before .before .loop .inv .0
+
+same-length-22 : tie.Need-same-length-22 Inv-loop μ-loop
+same-length-22 c = c .before .before .before .before .before .before .note-plain2 .kept .0 ∙ c .before .before .before .before .before .before .before .before .before .before .before .before .before .before .before .before .before .before .before .before .before .before .before .loop .inv .1
+
+returns-11 : tie.Need-returns-11 Inv-loop μ-loop
+unfolding noteSaid
+returns-11 c = rw (c .failed3 .ensures .0, c .failed3 .ensures .1) (enter-fails (turn (c .before .before .before .before .before .before .before .before .before .before .before .before .before .before .before .before .before .before .before)) _ (due-member (c .before .before .before .before .before .before .before .before .before .before .before .before .before .before .before .before .before)) _ _ _ (found-container (c .before .before .before .before .before .before .before .before .before .before .before .before .before)) (sym (c .before .before .before .before .before .before .before .before .before .before .before .is-open .ensures) ∙ c .before .before .before .before .before .before .before .before .before .before .if3 .left) (c .before .before .before .before .before .before .before .before .before .if4 .left) _ (c .before .before .before .before .before .before .before .start-of .ensures) _ _ (c .before .before .before .before .before .before .note-plain2 .ensures .0) (c .before .before .before .before .before .before .note-plain2 .ensures .1) _ (ap noteSaid (c .before .before .failure3 .given .1)))
+
+enum-known-n-3 : tie.Need-enum-known-n-3 Inv-loop μ-loop
+enum-known-n-3 c = search needs
+
+mul-frames-4 : tie.Need-mul-frames-4 Inv-loop μ-loop
+mul-frames-4 c = search needs
+
+element-copy-out-frames-2 : tie.Need-element-copy-out-frames-2 Inv-loop μ-loop
+element-copy-out-frames-2 c = search needs
+
+add-frames-2 : tie.Need-add-frames-2 Inv-loop μ-loop
+add-frames-2 c = omega (arith, counts (turn (c .before .before .before .before .before .before .before .before .before .before .before .before .before .before .before .before .before .before)) _ (due-member (c .before .before .before .before .before .before .before .before .before .before .before .before .before .before .before .before)) (c .before .before .before .before .before .before .before .before .before .before .before .before .before .before .before .before .before .before .before .before .before .before .loop .inv .3))
+
+mul-frames-5 : tie.Need-mul-frames-5 Inv-loop μ-loop
+mul-frames-5 c = search needs
+
+way-write-given-frames-2 : tie.Need-way-write-given-frames-2 Inv-loop μ-loop
+way-write-given-frames-2 c = search needs
+
+cast-t75 : tie.Need-cast-t75 Inv-loop μ-loop
+cast-t75 c = omega (arith, short-number (turn (c .before .before .before .before .before .before .before .before .before .before .before .before .before .before .before .before .before .before .before)) _ _ _ _ (found-container (c .before .before .before .before .before .before .before .before .before .before .before .before .before)))
+
+cast-t76 : tie.Need-cast-t76 Inv-loop μ-loop
+cast-t76 c = omega (arith, short-length (turn (c .before .before .before .before .before .before .before .before .before .before .before .before .before .before .before .before .before .before .before)) _ _ _ _ (found-container (c .before .before .before .before .before .before .before .before .before .before .before .before .before)))
+
+mul-frames-6 : tie.Need-mul-frames-6 Inv-loop μ-loop
+mul-frames-6 c = search needs
+
+array-set-from-frames-2 : tie.Need-array-set-from-frames-2 Inv-loop μ-loop
+array-set-from-frames-2 c = search needs
+
+add-depth : tie.Need-add-depth Inv-loop μ-loop
+add-depth c = search needs
+
+loop-less-3 : tie.Need-loop-less-3 Inv-loop μ-loop
+loop-less-3 c = search needs
+
+loop-again-3 : tie.Need-loop-again-3 Inv-loop μ-loop
+unfolding noteSaid nextIn
+loop-again-3 c = (
+  c .before .before .before .before .before .before .before .before .before .before .before .before .before .before .before .before .before .before .before .before .before .before .before .loop .inv .0,
+  c .before .before .before .before .before .before .note-plain2 .kept .0 ∙ c .before .before .before .before .before .before .before .before .before .before .before .before .before .before .before .before .before .before .before .before .before .before .before .loop .inv .1,
+  omega arith,
+  λ e. absurd (omega arith),
+  enter-goes (turn (c .before .before .before .before .before .before .before .before .before .before .before .before .before .before .before .before .before .before .before)) _ (due-member (c .before .before .before .before .before .before .before .before .before .before .before .before .before .before .before .before .before)) _ _ _ (found-container (c .before .before .before .before .before .before .before .before .before .before .before .before .before)) (sym (c .before .before .before .before .before .before .before .before .before .before .before .is-open .ensures) ∙ c .before .before .before .before .before .before .before .before .before .before .if3 .left) (c .before .before .before .before .before .before .before .before .before .if4 .left) _ (c .before .before .before .before .before .before .before .start-of .ensures) _ _ (c .before .before .before .before .before .before .note-plain2 .ensures .0) (c .before .before .before .before .before .before .note-plain2 .ensures .1) _ (ap noteSaid (c .before .before .n3 .given .1)),
+)
+
+same-length-23 : tie.Need-same-length-23 Inv-loop μ-loop
+same-length-23 c = c .before .loop .inv .0
+
+same-length-24 : tie.Need-same-length-24 Inv-loop μ-loop
+same-length-24 c = c .before .loop .inv .1
+
+returns-12 : tie.Need-returns-12 Inv-loop μ-loop
+unfolding endSaid onward
+returns-12 c =
+    let e : c .before .loop .left ≡ 0 = omega arith in
+    rw (e, onward) at (c .before .loop .inv .4)
+
+pub walk-spec : {M : Type 1} → statement M
+walk-spec =
+    tie.close
+    (tie.spec
+    Inv-loop
+    μ-loop
+    cast-place
+    loop-holds
+    sub-left
+    innermost-requires
+    mul-due-now
+    array-copy-out-due-now
+    due-now-requires
+    enum-told
+    refused-requires
+    same-length
+    same-length-2
+    returns
+    enum-told-2
+    note-plain-requires
+    enum-known-failure
+    failed-requires
+    same-length-3
+    same-length-4
+    returns-2
+    enum-known-n
+    finished-requires
+    same-length-5
+    same-length-6
+    returns-3
+    mul-frames
+    array-set-from-frames
+    loop-less
+    loop-again
+    enum-known-object
+    look-up-requires
+    enum-known-refusal
+    refused-requires-2
+    same-length-7
+    same-length-8
+    returns-4
+    enum-told-3
+    refused-requires-3
+    same-length-9
+    same-length-10
+    returns-5
+    enum-known-refusal-2
+    refused-requires-4
+    same-length-11
+    same-length-12
+    returns-6
+    enum-known-event
+    note-requires
+    enum-known-failure-2
+    failed-requires-2
+    same-length-13
+    same-length-14
+    returns-7
+    enum-known-n-2
+    finished-requires-2
+    same-length-15
+    same-length-16
+    returns-8
+    mul-frames-2
+    element-copy-out-frames
+    add-frames
+    mul-frames-3
+    way-write-given-frames
+    loop-less-2
+    loop-again-2
+    enum-known-shape
+    cast-is-open
+    is-open-requires
+    refused-requires-5
+    same-length-17
+    same-length-18
+    returns-9
+    refused-requires-6
+    same-length-19
+    same-length-20
+    returns-10
+    start-of-requires
+    note-plain-requires-2
+    enum-known-failure-3
+    failed-requires-3
+    same-length-21
+    same-length-22
+    returns-11
+    enum-known-n-3
+    mul-frames-4
+    element-copy-out-frames-2
+    add-frames-2
+    mul-frames-5
+    way-write-given-frames-2
+    cast-t75
+    cast-t76
+    mul-frames-6
+    array-set-from-frames-2
+    add-depth
+    loop-less-3
+    loop-again-3
+    same-length-23
+    same-length-24
+    returns-12)

@@ -1,0 +1,35 @@
+-- A file walked through from its root on: what is due, and what is known of an event that is noted.
+use mathlib.Core.Bool.{false, cond}
+use mathlib.Core.List.{List}
+use mathlib.Core.Path.{_≡_}
+use Prim.Native.Nat.{ℕ, _≤_}
+use lib.Dec.{eqb}
+use lib.ListN.{length}
+use Rattle.number.specs.Width.{bytesIn}
+use Rattle.event.specs.declared.Event.{Event}
+use Rattle.reader.specs.Layout.{dueOf}
+use Rattle.reader.specs.Request.{eventAsked}
+use Rattle.reader.specs.Said.{askedSaid}
+use Rattle.reader.specs.State.{maxLength}
+use Rattle.reader.specs.declared.layout.Due.{Due}
+use Rattle.reader.specs.declared.layout.Due.the-variants.{Member}
+use Rattle.reader.specs.declared.layout.Layout.{Layout}
+use Rattle.reader.specs.declared.request.Asked.{Asked as AskedRead}
+use Rattle.reader.specs.declared.state.Frame.{Frame}
+use Rattle.reader.specs.declared.state.Reader.{Reader}
+use Rattle.transcribe.specs.Asking.{Given}
+
+-- the root where nothing is open, else what the innermost container says
+unfoldable pub dueNow : List ℕ → Layout → ℕ → ℕ → Frame → Due
+dueNow file l root opened f = cond (eqb opened 0) (Member root) (dueOf file l f)
+
+-- the reader that has these containers open
+unfoldable pub within : List ℕ → Layout → ℕ → ℕ → List Frame → Reader
+within file l place held frames =
+    record { fresh = false; length = length file; offsets = bytesIn (l .offsets); refs = bytesIn (l .refs); count = l .count; table = l .table; place = place; held = held; frames = frames }
+
+-- an event that a reader handed out, with where its bytes stand
+pub record Notable (file : List ℕ) (e : Event) (bytes : AskedRead) (offset : ℕ) : Type 0 where
+  pub short : length file ≤ maxLength
+  pub stands : askedSaid bytes ≡ eventAsked file e offset
+  pub given : Given file e (eventAsked file e offset)
