@@ -90,6 +90,10 @@ use Rattle.reader.proofs.layout.number_at.Kinds as number-at-kinds
 use Rattle.reader.proofs.layout.number_at.Reads as number-at-reads
 use Rattle.reader.proofs.layout.due_at.Kinds as due-at-kinds
 use Rattle.reader.proofs.layout.due_at.Reads as due-at-reads
+use Rattle.reader.proofs.layout.stands_at.Kinds as stands-at-kinds
+use Rattle.reader.proofs.layout.stands_at.Reads as stands-at-reads
+use Rattle.reader.proofs.layout.due_in.Kinds as due-in-kinds
+use Rattle.reader.proofs.layout.due_in.Reads as due-in-reads
 use Rattle.reader.proofs.lookup.look_up.Kinds as look-up-kinds
 use Rattle.reader.proofs.lookup.look_up.Reads as look-up-reads
 use Rattle.reader.proofs.lookup.start_of.Kinds as start-of-kinds
@@ -211,6 +215,12 @@ number-at-one κs a x y e f p q = (p ∙ sym q, refl)
 
 due-at-one : One 1 due-at-kinds.ps due-at-kinds.r due-at-reads.Post (Unit {0}) (λ κs e. tt)
 due-at-one κs a x y e f p q = (p ∙ sym q, refl)
+
+stands-at-one : One 1 stands-at-kinds.ps stands-at-kinds.r stands-at-reads.Post (Unit {0}) (λ κs e. tt)
+stands-at-one κs a x y e f p q = (p ∙ sym q, refl)
+
+due-in-one : One 1 due-in-kinds.ps due-in-kinds.r due-in-reads.Post (Unit {0}) (λ κs e. tt)
+due-in-one κs a x y e f p q = (p ∙ sym q, refl)
 
 look-up-one : One 1 look-up-kinds.ps look-up-kinds.r look-up-reads.Post (Unit {0}) (λ κs e. tt)
 look-up-one κs a x y e f p q = (look-one x y (p .0 ∙ sym (q .0)) (p .1 ∙ sym (q .1)), refl)

@@ -7,5 +7,6 @@ pub mod Numbers
 pub mod Reach
 pub mod Short
 pub mod Split
+pub mod Stands
 pub mod Steps
 pub mod Wide

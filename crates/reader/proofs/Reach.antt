@@ -1,71 +1,27 @@
--- What a container or an object that was found tells of its numbers: they fit.
+-- What a container that was found tells of its count: it fits.
 use Prim.Native.Nat.{ℕ, _+_, _*_, _^_, _≤_, _<_}
 use mathlib.Core.Bool.{Bool, true, false, cond}
 use mathlib.Core.List.{List}
 use mathlib.Core.Path.{_≡_, refl}
 use native.Mathlib.Omega.{arith}
 use native.Mathlib.Nat.{le-mul-of-pos-right}
-use borrow.Author.Tests.{ltb-true}
 use lib.Dec.{ltb, leb}
 use lib.ListN.{length, getD}
-use Rattle.object.specs.Container.{containerAt, containerOf}
 use Rattle.number.specs.Be.{be}
 use Rattle.number.specs.Width.{bytesIn}
 use Rattle.number.specs.WidthLaws.{bytesIn-pos}
 use Rattle.number.specs.declared.width.Width.{Width}
 use Rattle.unicode.specs.Unicode.{isUtf8, isUtf16}
 use Rattle.object.specs.Content.{part, trailerAt, roomFor, contentAt}
-use Rattle.object.specs.ContentLaws.{start-below, fitting}
+use Rattle.object.specs.ContentLaws.{fitting}
 use Rattle.object.specs.Object.{Found, objectAt, byKind, wideIn, dataIn, utf8In, utf16In, arrayIn, dictionaryIn}
 use Rattle.object.specs.Object as found
 use Rattle.object.specs.declared.content.Content.{Content}
 use Rattle.object.specs.declared.content.Content.the-variants.{Fits, TooLarge}
 use Rattle.object.specs.declared.content.Extent.{Extent}
 use Rattle.object.specs.Kind.{kindOf}
-use Rattle.object.specs.declared.container.Container.{Container}
-use Rattle.object.specs.declared.container.Container.the-variants.{Array, Dictionary, NoContainer}
 use Rattle.object.specs.declared.kind.Kind.{Kind}
 use Rattle.object.specs.declared.kind.Kind.the-variants as kind
-
--- the references of a container begin at or before n
-abbrev pub StartsBy : ℕ → Container → Type 0
-StartsBy n (Array e) = e .start ≤ n
-StartsBy n (Dictionary e) = e .start ≤ n
-StartsBy n NoContainer = Unit {0}
-
-starts-of : (file : List ℕ) (offset : ℕ) (k : Kind) → StartsBy (offset + 10) (containerOf file offset k)
-unfolding containerOf
-starts-of file offset kind.Null = tt
-starts-of file offset kind.False = tt
-starts-of file offset kind.True = tt
-starts-of file offset kind.Fill = tt
-starts-of file offset (kind.Unsigned width) = tt
-starts-of file offset kind.Signed = tt
-starts-of file offset kind.Wide = tt
-starts-of file offset kind.ShortReal = tt
-starts-of file offset kind.Real = tt
-starts-of file offset kind.Date = tt
-starts-of file offset (kind.Data nibble) = tt
-starts-of file offset (kind.Utf8 nibble) = tt
-starts-of file offset (kind.Utf16 nibble) = tt
-starts-of file offset (kind.Uid width) = tt
-starts-of file offset (kind.Array nibble) = start-below file offset nibble
-starts-of file offset (kind.Dictionary nibble) = start-below file offset nibble
-starts-of file offset (kind.Unknown marker) = tt
-
-later : (m n : ℕ) → m ≤ n → (c : Container) → StartsBy m c → StartsBy n c
-later m n h (Array e) s = omega arith
-later m n h (Dictionary e) s = omega arith
-later m n h NoContainer s = tt
-
--- the references of a container that is found begin within the file
-pub starts-in : (file : List ℕ) (offset : ℕ) → StartsBy (length file) (containerAt file offset)
-unfolding containerAt
-starts-in file offset = go (ltb offset (trailerAt file)) refl
-  where
-    go : (b : Bool) → ltb offset (trailerAt file) ≡ b → StartsBy (length file) (containerAt file offset)
-    go true e = rw e (later (offset + 10) (length file) (omega (arith, ltb-true offset (trailerAt file) e)) (containerOf file offset (kindOf (getD file offset 0))) (starts-of file offset (kindOf (getD file offset 0))))
-    go false e = rw e tt
 
 -- a container has at most n elements or pairs
 abbrev pub CountsBy : ℕ → Found → Type 0

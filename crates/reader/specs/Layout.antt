@@ -21,6 +21,7 @@ use Rattle.reader.specs.declared.layout.Due.the-variants.{Wrong, Close, 
 use Rattle.reader.specs.declared.layout.Entry.{Entry}
 use Rattle.reader.specs.declared.layout.Entry.the-variants.{Of, Outside}
 use Rattle.reader.specs.declared.layout.Layout.{Layout}
+use Rattle.reader.specs.declared.layout.Standing.{Standing}
 use Rattle.reader.specs.declared.state.Frame.{Frame}
 
 -- the number of a width that stands at an offset, where it lies within the file
@@ -67,6 +68,17 @@ dueFrom file l f (Of offset) = dueIn file l f offset (containerAt file offset)
 
 unfoldable pub dueOf : List ℕ → Layout → Frame → Due
 dueOf file l f = cond (ltb (f .object) (l .count)) (dueFrom file l f (entryAt file l (f .object))) Wrong
+
+-- a container's offset, and what stands there
+abbrev pub nowhere : Standing
+nowhere = record { offset = 0; container = NoContainer }
+
+unfoldable pub standsFrom : List ℕ → Entry → Standing
+standsFrom file Outside = nowhere
+standsFrom file (Of offset) = record { offset = offset; container = containerAt file offset }
+
+unfoldable pub standsAt : List ℕ → Layout → ℕ → Standing
+standsAt file l n = cond (ltb n (l .count)) (standsFrom file (entryAt file l n)) nowhere
 
 -- what is found at an object's offset
 unfoldable pub lookIn : ℕ → Found → Looked

@@ -7,9 +7,8 @@ use object::container::Container;
 use object::container::container_at;
 use object::content::Extent;
 ghost use mathlib.Core.Path.{_≡_};
-ghost use Prim.Native.Nat.{_≤_, _<_, _^_};
-ghost use lib.ListN.{length};
-ghost use Rattle.reader.specs.Layout.{numberAt, entryAt, dueAt, inArray, inDictionary, dueOf};
+ghost use Prim.Native.Nat.{_<_, _^_};
+ghost use Rattle.reader.specs.Layout.{numberAt, entryAt, dueAt, inArray, inDictionary, dueIn, dueOf, standsAt};
 
 pub struct Layout {
     pub offsets: Width,
@@ -29,6 +28,19 @@ pub enum Due {
     Wrong,
     Close(u64),
     Member(u64),
+}
+
+// An open container's offset, and what stands there.
+pub struct Standing {
+    pub offset: u64,
+    pub container: Container,
+}
+
+impl Standing {
+    pub const NOWHERE: Standing = Standing {
+        offset: 0,
+        container: Container::NoContainer,
+    };
 }
 
 // The number of a width that stands at an offset.
@@ -64,14 +76,33 @@ pub(crate) fn entry_at(file: &[u8], layout: Layout, object: u32) -> Entry
 pub fn due_at(file: &[u8], layout: Layout, frame: Frame) -> Due
     ensures { λ r. ⌜ r ≡ dueOf (now (file .entry)) layout frame ⌝ }
 {
-    if layout.count <= frame.object {
-        return Due::Wrong;
+    due_in(file, layout, frame, stands_at(file, layout, frame.object))
+}
+
+// Where a container stands, and what stands there; no container where there is none.
+pub fn stands_at(file: &[u8], layout: Layout, object: u32) -> Standing
+    ensures { λ r. ⌜ r ≡ standsAt (now (file .entry)) layout object ⌝ }
+{
+    if layout.count <= object {
+        return Standing::NOWHERE;
     }
-    let Entry::Of(offset) = entry_at(file, layout, frame.object) else {
-        return Due::Wrong;
+    let Entry::Of(offset) = entry_at(file, layout, object) else {
+        return Standing::NOWHERE;
     };
+    Standing {
+        offset,
+        container: container_at(file, offset as usize),
+    }
+}
+
+// What is due in a container that was looked at already.
+pub fn due_in(file: &[u8], layout: Layout, frame: Frame, standing: Standing) -> Due
+    ensures { λ r. ⌜ r ≡ dueIn (now (file .entry)) layout frame (standing .offset) (standing .container) ⌝ }
+{
     let refs = layout.refs;
-    match container_at(file, offset as usize) {
+    let offset = standing.offset;
+    let container = standing.container;
+    match container {
         Container::NoContainer => Due::Wrong,
         Container::Array(extent) => due_in_array(file, refs, offset, extent, frame),
         Container::Dictionary(extent) => due_in_dictionary(file, refs, offset, extent, frame),
@@ -79,7 +110,6 @@ pub fn due_at(file: &[u8], layout: Layout, frame: Frame) -> Due
 }
 
 fn due_in_array(file: &[u8], refs: Width, offset: u64, extent: Extent, frame: Frame) -> Due
-    requires { ⌜ extent .start ≤ length (now file) ⌝ }
     ensures { λ r. ⌜ r ≡ inArray (now (file .entry)) refs frame offset extent ⌝ }
 {
     if extent.count != frame.length as u64 {
@@ -99,7 +129,6 @@ fn due_in_array(file: &[u8], refs: Width, offset: u64, extent: Extent, frame: Fr
 
 // Keys and values come in turn, and all keys stand before all values.
 fn due_in_dictionary(file: &[u8], refs: Width, offset: u64, extent: Extent, frame: Frame) -> Due
-    requires { ⌜ extent .start ≤ length (now file) ⌝ }
     ensures { λ r. ⌜ r ≡ inDictionary (now (file .entry)) refs frame offset extent ⌝ }
 {
     if extent.count != frame.length as u64 {
@@ -121,13 +150,16 @@ fn due_from(
     place: u64,
     position: u64,
 ) -> Due
-    requires { ⌜ (start ≤ length (now file)) × (place < 2 ^ 33) ⌝ }
+    requires { ⌜ place < 2 ^ 33 ⌝ }
     ensures { λ r. ⌜ r ≡ dueAt (now (file .entry)) refs offset start references place position ⌝ }
 {
     if position == references {
         return Due::Close(offset);
     }
     if references < position {
+        return Due::Wrong;
+    }
+    if file.len() < start {
         return Due::Wrong;
     }
     let Entry::Of(object) = number_at(file, refs, start + place as usize * bytes_in(refs)) else {

@@ -6,17 +6,15 @@ use Prim.Native.Nat.{ℕ, zero, suc, _+_, _-_, _<_, _≤_, _^_}
 use native.Mathlib.Omega.{arith}
 use borrow.Author.Tests.{eq-eqb, ne-eqb, le-leb, lt-leb}
 use lib.Dec.{lit<}
-use lib.ListN.{length, replicate, set, getD, take}
-use lib.Seq.{set-set}
+use lib.ListN.{length, replicate, set, getD, take, length-set}
+use lib.Seq.{set-set, getD-set-same}
 use Rattle.number.specs.WidthLaws.{allowed}
-use Rattle.number.specs.Width.{bytesIn, widthOf}
-use Rattle.number.specs.declared.width.Size.the-variants.{Allowed}
-use Rattle.number.specs.declared.width.Width.{Width}
-use Rattle.number.specs.declared.width.Width.the-variants.{One, Two, Three, Four, Eight}
 use Rattle.event.specs.Meaning.{meaningOf}
 use Rattle.event.specs.declared.Event.{Event}
 use Rattle.event.specs.declared.Event.the-variants.{EndCollection}
-use Rattle.reader.specs.Layout.{lookOf, sourceOf}
+use Rattle.object.specs.Container.{containerAt}
+use Rattle.object.specs.declared.container.Container.{Container}
+use Rattle.reader.specs.Layout.{lookOf, standsAt, sourceOf}
 use Rattle.reader.specs.Machine.{Step, event, Shape, Looked, barred, missing, faulty, scalar, container, step, startOf, enter, arrive, follow}
 use Rattle.reader.specs.Machine as reader
 use Rattle.reader.specs.Next.{laidOut}
@@ -26,9 +24,11 @@ use Rattle.reader.specs.State.{maxOpen, maxLength, noFrame, endedReader, innerm
 use Rattle.reader.specs.declared.layout.Due.{Due}
 use Rattle.reader.specs.declared.layout.Due.the-variants.{Wrong, Close, Member}
 use Rattle.reader.specs.declared.layout.Layout.{Layout}
+use Rattle.reader.specs.declared.layout.Standing.{Standing}
 use Rattle.reader.specs.declared.state.Frame.{Frame}
 use Rattle.reader.specs.declared.state.Reader.{Reader}
 use Rattle.reader.proofs.Counts.{counted, numbered, measured}
+use Rattle.reader.proofs.Stands.{due-stands, looked-stands}
 use Rattle.reader.specs.Said.{askedSaid}
 use Rattle.reader.specs.declared.request.Asked.{Asked as AskedRead}
 use Rattle.tape.specs.Append.{appendOf, appendTo}
@@ -41,11 +41,19 @@ use Rattle.transcribe.specs.Walk.{Notable, dueNow, within}
 use Rattle.transcribe.specs.declared.Failure.{Failure}
 use Rattle.transcribe.proofs.Calls.{plain-noted, start-plain, call-refused, call-kept, call-failed, run-ended}
 
+-- where the innermost of these containers stands
+abbrev pub standsIn : List ℕ → Layout → ℕ → List Frame → Standing
+standsIn file l depth frames = standsAt file l (getD frames (depth - 1) noFrame .object)
+
+-- what was looked at is that, unless nothing is open
+abbrev pub Stands : List ℕ → Layout → Standing → ℕ → List Frame → Type 0
+Stands file l standing depth frames = (depth ≡ 0 → ⊥) → standing ≡ standsIn file l depth frames
+
 module _ (file : List ℕ) (l : Layout) (root : ℕ) where
   -- the call that is made with these containers open
   unfoldable pub callOf : ℕ → ℕ → List Frame → Step
   callOf place depth frames =
-      follow (sourceOf file l) (within file l place depth frames) (dueNow file l root depth (getD frames (depth - 1) noFrame))
+      follow (sourceOf file l) (within file l place depth frames) (dueNow file l root depth (getD frames (depth - 1) noFrame) (standsIn file l depth frames))
 
   -- what is left of a run then
   abbrev pub leftOf : ℕ → List ℕ → List ℕ → ℕ → ℕ → ℕ → List Frame → Run
@@ -66,9 +74,10 @@ module _ (file : List ℕ) (l : Layout) (root : ℕ) where
   unfolding within innermost callOf dueNow
   run-open short n scratch tape held place depth frames some fits =
       run-onward n file scratch tape held (within file l place depth frames) ∙
-      ap (onward n file scratch tape held) (next-due file (within file l place depth frames) refl some short refl fits l (allowed (l .offsets)) (allowed (l .refs)) refl refl ∙ rw (ne-eqb _ _ some))
+      ap (onward n file scratch tape held) (next-due file (within file l place depth frames) refl some short refl fits l (allowed (l .offsets)) (allowed (l .refs)) refl refl ∙ rw (ne-eqb _ _ some, due-stands file l (getD frames (depth - 1) noFrame)))
 
--- a turn: something is left, and the innermost frame is the one at `top`. What is left is the whole run that the walk began with
+-- a turn: something is left, and the innermost frame is the one at `top`, of a container that stands there. What is left is the whole run
+-- that the walk began with
 pub record Turn : Type 0 where
   pub file : List ℕ
   pub layout : Layout
@@ -81,12 +90,15 @@ pub record Turn : Type 0 where
   pub depth : ℕ
   pub frames : List Frame
   pub top : ℕ
+  pub standing : Standing
   pub whole : Run
   pub short : length file ≤ maxLength
   pub few : layout .count < 2 ^ 32
   pub some : 0 < left
   pub fits : depth ≤ maxOpen
+  pub long : length frames ≡ maxOpen
   pub at : top ≡ depth - 1
+  pub stands : Stands file layout standing depth frames
   pub is : leftOf file layout root left scratch tape held place depth frames ≡ whole
 
 module _ (x : Turn) where
@@ -94,7 +106,7 @@ module _ (x : Turn) where
   reads = within (x .file) (x .layout) (x .place) (x .depth) (x .frames)
 
   abbrev pub due : Due
-  due = dueNow (x .file) (x .layout) (x .root) (x .depth) (getD (x .frames) (x .top) noFrame)
+  due = dueNow (x .file) (x .layout) (x .root) (x .depth) (getD (x .frames) (x .top) noFrame) (x .standing)
 
   abbrev call : Step
   call = callOf (x .file) (x .layout) (x .root) (x .place) (x .depth) (x .frames)
@@ -132,15 +144,24 @@ module _ (x : Turn) where
     goes place depth frames e some fits m k =
         sym (run-open (x .file) (x .layout) (x .root) (x .short) (x .left - 1) s t m place depth frames some fits) ∙ rw (← e) (is-kept m k)
 
+  -- what is due is what the call follows
+  call-due : call ≡ follow (sourceOf (x .file) (x .layout)) reads due
+  unfolding callOf dueNow
+  call-due = go (x .depth) refl
+    where
+      go : (n : ℕ) → x .depth ≡ n → call ≡ follow (sourceOf (x .file) (x .layout)) reads due
+      go zero e = rw (eq-eqb (x .depth) 0 e)
+      go (suc n) e = rw (x .at, x .stands (λ z. omega arith))
+
   pub is-wrong : due ≡ Wrong → Ends (refused 17 [] 0) (x .held) (x .tape) (x .scratch)
-  unfolding callOf follow
-  is-wrong d = refuses reads 17 [] 0 (rw (← x .at, d))
+  unfolding follow
+  is-wrong d = refuses reads 17 [] 0 (rw (call-due, d))
 
   -- the innermost container ends
   module _ (offset : ℕ) (d : due ≡ Close offset) (y : Noted) (t : List ℕ) (notes : y ≡ fromTape (appendOf (x .tape) (x .held) (meaningOf EndCollection []))) (puts : t ≡ appendTo (x .tape) (x .held) (meaningOf EndCollection [])) where
     call-close : call ≡ step (closed reads) (event EndCollection offset)
-    unfolding callOf follow
-    call-close = rw (← x .at, d)
+    unfolding follow
+    call-close = rw (call-due, d)
 
     noted-close : Notes EndCollection offset y t (x .scratch)
     unfolding hasBytes
@@ -169,8 +190,8 @@ module _ (x : Turn) where
   -- a member is due
   module _ (object : ℕ) (d : due ≡ Member object) where
     call-member : call ≡ arrive reads object (looked object)
-    unfolding callOf follow sourceOf
-    call-member = rw (← x .at, d)
+    unfolding follow sourceOf
+    call-member = rw (call-due, d)
 
     pub is-barred : (number : ℕ) (values : List ℕ) → looked object ≡ barred number values → Ends (refused number values (x .place)) (x .held) (x .tape) (x .scratch)
     unfolding arrive within
@@ -201,6 +222,11 @@ module _ (x : Turn) where
       scalar-goes z =
           goes (passed reads offset) e offset call-scalar y t s notes offset (x .depth) (set (x .frames) (x .top) (nextIn (getD (x .frames) (x .top) noFrame))) (rw (ne-eqb (x .depth) 0 z, ← x .at)) z (x .fits)
 
+      -- the innermost container is still the same
+      pub scalar-stands : Stands (x .file) (x .layout) (x .standing) (x .depth) (set (x .frames) (x .top) (nextIn (getD (x .frames) (x .top) noFrame)))
+      unfolding nextIn
+      scalar-stands z = rw (← x .at, getD-set-same (x .frames) (x .top) _ noFrame (omega (arith, x .long, x .at, x .fits)), x .at) (x .stands z)
+
     -- a container
     module _ (shape : Shape) (k offset : ℕ) (f : looked object ≡ container shape k offset) where
       call-enter : call ≡ enter reads object shape k offset
@@ -210,6 +236,13 @@ module _ (x : Turn) where
       pub is-open-now : memberOf (take (x .depth) (x .frames)) object ≡ true → Ends (refused 14 [] offset) (x .held) (x .tape) (x .scratch)
       unfolding enter openOf within
       is-open-now b = refuses endedReader 14 [] offset (call-enter ∙ rw b)
+
+      -- the innermost container is the new one
+      pub enter-stands : x .depth < maxOpen → (y : Container) → y ≡ containerAt (x .file) offset → Stands (x .file) (x .layout) (record { offset = offset; container = y }) (x .depth + 1) (set (set (x .frames) (x .top) (nextIn (getD (x .frames) (x .top) noFrame))) (x .depth) (record { object = object; position = 0; length = k }))
+      enter-stands h y e z =
+          let g : Frame = nextIn (getD (x .frames) (x .top) noFrame) in
+          let last : x .depth + 1 - 1 ≡ x .depth = omega arith in
+          rw (e, last, getD-set-same (set (x .frames) (x .top) g) (x .depth) _ noFrame (omega (arith, x .long, length-set (x .frames) (x .top) g))) (sym (looked-stands (x .file) (x .layout) object shape k offset f))
 
       module _ (b : memberOf (take (x .depth) (x .frames)) object ≡ false) where
         pub is-deep : maxOpen ≤ x .depth → Ends (refused 15 [] offset) (x .held) (x .tape) (x .scratch)
@@ -259,4 +292,6 @@ module _ (x : Turn) where
           let z : x .top ≡ 0 = omega (arith, x .at) in
           rw (first e, z) (lit< tt)
       go (suc n) e =
-          counted (x .file) (x .short) object (x .layout) (getD (x .frames) (x .top) noFrame) (rw (ne-eqb (x .depth) 0 (λ z. omega arith)) at d)
+          let some : x .depth ≡ 0 → ⊥ = λ z. omega arith in
+          let f : Frame = getD (x .frames) (x .top) noFrame in
+          counted (x .file) (x .short) object (x .layout) f (due-stands (x .file) (x .layout) f ∙ rw (ne-eqb (x .depth) 0 some, x .stands some, ← x .at) at d)

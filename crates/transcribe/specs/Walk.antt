@@ -7,21 +7,22 @@ use lib.Dec.{eqb}
 use lib.ListN.{length}
 use Rattle.number.specs.Width.{bytesIn}
 use Rattle.event.specs.declared.Event.{Event}
-use Rattle.reader.specs.Layout.{dueOf}
+use Rattle.reader.specs.Layout.{dueIn}
 use Rattle.reader.specs.Request.{eventAsked}
 use Rattle.reader.specs.Said.{askedSaid}
 use Rattle.reader.specs.State.{maxLength}
 use Rattle.reader.specs.declared.layout.Due.{Due}
 use Rattle.reader.specs.declared.layout.Due.the-variants.{Member}
 use Rattle.reader.specs.declared.layout.Layout.{Layout}
+use Rattle.reader.specs.declared.layout.Standing.{Standing}
 use Rattle.reader.specs.declared.request.Asked.{Asked as AskedRead}
 use Rattle.reader.specs.declared.state.Frame.{Frame}
 use Rattle.reader.specs.declared.state.Reader.{Reader}
 use Rattle.transcribe.specs.Asking.{Given}
 
--- the root where nothing is open, else what the innermost container says
-unfoldable pub dueNow : List ℕ → Layout → ℕ → ℕ → Frame → Due
-dueNow file l root opened f = cond (eqb opened 0) (Member root) (dueOf file l f)
+-- the root where nothing is open, else what the innermost container says, which stands there
+unfoldable pub dueNow : List ℕ → Layout → ℕ → ℕ → Frame → Standing → Due
+dueNow file l root depth f s = cond (eqb depth 0) (Member root) (dueIn file l f (s .offset) (s .container))
 
 -- the reader that has these containers open
 unfoldable pub within : List ℕ → Layout → ℕ → ℕ → List Frame → Reader

@@ -1,9 +1,12 @@
 // A whole file onto a tape: what a fresh reader answers to its end, every event appended.
 use event::Event;
+use object::container::container_at;
 use reader::answer::Refusal;
 use reader::layout::Due;
 use reader::layout::Layout;
-use reader::layout::due_at;
+use reader::layout::Standing;
+use reader::layout::due_in;
+use reader::layout::stands_at;
 use reader::lookup::Look;
 use reader::lookup::look_up;
 use reader::lookup::start_of;
@@ -98,10 +101,12 @@ fn walk(
     let mut place = layout.table as u64;
     let mut held: usize = 0;
     let mut left = budget;
+    // the innermost open container, looked at once and not again for each of its references
+    let mut standing = Standing::NOWHERE;
     while 0 < left {
         left -= 1;
         let top = innermost(depth);
-        match due_now(file, layout, root, depth, frames[top]) {
+        match due_now(file, layout, root, depth, frames[top], standing) {
             Due::Wrong => {
                 return refused(Refusal::WrongFile, 0, held);
             }
@@ -115,6 +120,7 @@ fn walk(
                     }
                     frames[top] = Frame::NONE;
                     depth = top;
+                    standing = stands_at(file, layout, frames[top - 1].object);
                     held = n;
                     continue;
                 }
@@ -152,7 +158,8 @@ fn walk(
                     }
                 },
                 Look::Container(shape, length, offset) => {
-                    if is_open(frames, depth, object as u32) {
+                    let number = object as u32;
+                    if is_open(frames, depth, number) {
                         return refused(Refusal::RecursiveObject, offset, held);
                     }
                     if Reader::MAX_OPEN <= depth {
@@ -166,11 +173,15 @@ fn walk(
                             // With nothing open the first frame is written over at once.
                             frames[top].position = frames[top].position + 1;
                             frames[depth] = Frame {
-                                object: object as u32,
+                                object: number,
                                 position: 0,
                                 length: length as u32,
                             };
                             depth += 1;
+                            standing = Standing {
+                                offset,
+                                container: container_at(file, offset as usize),
+                            };
                             place = offset;
                             held = n;
                             continue;
@@ -197,13 +208,20 @@ fn innermost(depth: usize) -> usize
 }
 
 // What is due: the root where nothing is open yet, else what the innermost container says.
-fn due_now(file: &[u8], layout: Layout, root: u64, depth: usize, frame: Frame) -> Due
-    ensures { λ r. ⌜ r ≡ dueNow (now (file .entry)) layout root depth frame ⌝ }
+fn due_now(
+    file: &[u8],
+    layout: Layout,
+    root: u64,
+    depth: usize,
+    frame: Frame,
+    standing: Standing,
+) -> Due
+    ensures { λ r. ⌜ r ≡ dueNow (now (file .entry)) layout root depth frame standing ⌝ }
 {
     if depth == 0 {
         return Due::Member(root);
     }
-    due_at(file, layout, frame)
+    due_in(file, layout, frame, standing)
 }
 
 // Nothing is open any more: the end, unless the budget is used up.

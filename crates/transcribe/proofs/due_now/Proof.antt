@@ -9,12 +9,12 @@ returns : tie.Need-returns
 unfolding dueNow
 returns c = rw (eq-eqb _ _ (c .if1 .taken))
 
-due-at-requires : tie.Need-due-at-requires
-due-at-requires c κs = search needs
+due-in-requires : tie.Need-due-in-requires
+due-in-requires c κs = search needs
 
 returns-2 : tie.Need-returns-2
 unfolding dueNow
-returns-2 c = rw (ne-eqb _ _ (c .before .if1 .left)) (c .due-at .ensures)
+returns-2 c = rw (ne-eqb _ _ (c .before .if1 .left)) (c .due-in .ensures)
 
 pub due-now-spec : {M : Type 1} → statement M
-due-now-spec = tie.close (tie.spec returns due-at-requires returns-2)
+due-now-spec = tie.close (tie.spec returns due-in-requires returns-2)

@@ -14,16 +14,16 @@ use Rattle.reader.specs.Layout.{lookOf}
 use Rattle.reader.specs.Next.{laidOut}
 use Rattle.transcribe.specs.Said.{noteSaid, endSaid}
 use Rattle.transcribe.specs.Run.{onward}
-use Rattle.transcribe.proofs.Walking.{leftOf, due, looked, short-number, short-length, Turn, call-root, is-wrong, close-fails, close-finishes, close-goes, is-barred, is-missing, is-faulty, notable, counts, scalar-fails, scalar-finishes, scalar-goes, is-open-now, is-deep, enter-fails, enter-goes}
+use Rattle.transcribe.proofs.Walking.{Stands, leftOf, due, looked, short-number, short-length, Turn, call-root, is-wrong, close-fails, close-finishes, close-goes, is-barred, is-missing, is-faulty, notable, counts, scalar-fails, scalar-finishes, scalar-goes, scalar-stands, is-open-now, is-deep, enter-fails, enter-goes, enter-stands}
 use Rattle.transcribe.proofs.Calls.{start-plain}
 use Rattle.transcribe.proofs.walk.Statement.{statement}
 use Rattle.transcribe.proofs.walk.Tie as tie
 
 abbrev Inv-loop : tie.InvT-loop
-Inv-loop file scratch₀ tape₀ budget layout root frames₀ depth₀ place₀ held₀ left₀ scratch tape frames depth place held left = (length scratch ≡ length scratch₀) × (length tape ≡ length tape₀) × (depth ≤ maxOpen) × (depth ≡ 0 → frames ≡ replicate maxOpen noFrame) × (leftOf file layout root left scratch tape held place depth frames ≡ onward budget file scratch₀ tape₀ 0 (arrive (laidOut file layout) root (lookOf file layout root)))
+Inv-loop file scratch₀ tape₀ budget layout root frames₀ depth₀ place₀ held₀ left₀ standing₀ scratch tape frames depth place held left standing = (length scratch ≡ length scratch₀) × (length tape ≡ length tape₀) × (depth ≤ maxOpen) × (depth ≡ 0 → frames ≡ replicate maxOpen noFrame) × (leftOf file layout root left scratch tape held place depth frames ≡ onward budget file scratch₀ tape₀ 0 (arrive (laidOut file layout) root (lookOf file layout root))) × (length frames ≡ maxOpen) × Stands file layout standing depth frames
 
 abbrev μ-loop : tie.MeasureT-loop
-μ-loop file scratch₀ tape₀ budget layout root frames₀ depth₀ place₀ held₀ left₀ scratch tape frames depth place held left = left
+μ-loop file scratch₀ tape₀ budget layout root frames₀ depth₀ place₀ held₀ left₀ standing₀ scratch tape frames depth place held left standing = left
 
 -- the turn, as it stands once what is due is known
 abbrev turn : tie.After-due-now Inv-loop μ-loop → Turn
@@ -42,12 +42,15 @@ turn c =
       depth = l .depth;
       frames = l .frames;
       top = c .before .before .innermost .result;
+      standing = l .standing;
       whole = onward (a .budget) (a .file .now) (a .scratch .now) (a .tape .now) 0 (arrive (laidOut (a .file .now) (a .layout)) (a .root) (lookOf (a .file .now) (a .layout) (a .root)));
       short = c .before .before .before .before .before .before .before .before .before .pre;
       few = omega arith;
       some = c .before .before .before .loop-test .taken;
       fits = l .inv .2;
+      long = l .inv .5;
       at = c .before .before .innermost .ensures;
+      stands = l .inv .6;
       is = l .inv .4;
     }
 
@@ -71,7 +74,7 @@ cast-place : tie.Need-cast-place Inv-loop μ-loop
 cast-place c = search needs
 
 loop-holds : tie.Need-loop-holds Inv-loop μ-loop
-loop-holds c = (refl, refl, lit≤ tt, λ e. refl, ap (onward (c .before .before .before .before .args .budget) (c .before .before .before .before .args .file .now) (c .before .before .before .before .args .scratch .now) (c .before .before .before .before .args .tape .now) 0) (call-root (c .before .before .before .before .args .file .now) (c .before .before .before .before .args .layout) (c .before .before .before .before .args .root)))
+loop-holds c = (refl, refl, lit≤ tt, λ e. refl, ap (onward (c .before .before .before .before .args .budget) (c .before .before .before .before .args .file .now) (c .before .before .before .before .args .scratch .now) (c .before .before .before .before .args .tape .now) 0) (call-root (c .before .before .before .before .args .file .now) (c .before .before .before .before .args .layout) (c .before .before .before .before .args .root)), refl, λ e. absurd (e refl))
 
 sub-left : tie.Need-sub-left Inv-loop μ-loop
 sub-left c = search needs
@@ -149,18 +152,32 @@ mul-frames c = search needs
 array-set-from-frames : tie.Need-array-set-from-frames Inv-loop μ-loop
 array-set-from-frames c = search needs
 
+sub-stands-at : tie.Need-sub-stands-at Inv-loop μ-loop
+sub-stands-at c = search needs
+
+mul-stands-at : tie.Need-mul-stands-at Inv-loop μ-loop
+mul-stands-at c = search needs
+
+element-copy-out-stands-at : tie.Need-element-copy-out-stands-at Inv-loop μ-loop
+element-copy-out-stands-at c = search needs
+
+stands-at-requires : tie.Need-stands-at-requires Inv-loop μ-loop
+stands-at-requires c κs = search needs
+
 loop-less : tie.Need-loop-less Inv-loop μ-loop
 loop-less c = search needs
 
 loop-again : tie.Need-loop-again Inv-loop μ-loop
 unfolding noteSaid
 loop-again c =
-    let x = turn (c .before .before .before .before .before .before .before .before .before .before) in (
-      c .before .before .before .before .before .before .before .before .before .before .before .before .before .before .loop .inv .0,
-      c .before .before .before .before .before .before .note-plain .kept .0 ∙ c .before .before .before .before .before .before .before .before .before .before .before .before .before .before .loop .inv .1,
+    let x = turn (c .before .before .before .before .before .before .before .before .before .before .before) in (
+      c .before .before .before .before .before .before .before .before .before .before .before .before .before .before .before .loop .inv .0,
+      c .before .before .before .before .before .before .before .note-plain .kept .0 ∙ c .before .before .before .before .before .before .before .before .before .before .before .before .before .before .before .loop .inv .1,
       omega (arith, x .at, x .fits),
-      λ e. absurd (c .if1 .left e),
-      close-goes x _ (due-close (c .before .before .before .before .before .before .before .before)) _ _ (c .before .before .before .before .before .before .note-plain .ensures .0) (c .before .before .before .before .before .before .note-plain .ensures .1) (c .if1 .left) _ (ap noteSaid (c .before .before .n .given .1)),
+      λ e. absurd (c .before .if1 .left e),
+      close-goes x _ (due-close (c .before .before .before .before .before .before .before .before .before)) _ _ (c .before .before .before .before .before .before .before .note-plain .ensures .0) (c .before .before .before .before .before .before .before .note-plain .ensures .1) (c .before .if1 .left) _ (ap noteSaid (c .before .before .before .n .given .1)),
+      search needs,
+      λ e. c .stands-at .ensures,
     )
 
 enum-known-object : tie.Need-enum-known-object Inv-loop μ-loop
@@ -282,13 +299,15 @@ loop-again-2 c = (
   c .before .before .before .before .before .before .before .before .before .before .before .before .before .before .before .before .before .before .before .before .before .before .before .loop .inv .2,
   λ e. absurd (c .before .if2 .left e),
   scalar-goes (turn (c .before .before .before .before .before .before .before .before .before .before .before .before .before .before .before .before .before .before .before)) _ (due-member (c .before .before .before .before .before .before .before .before .before .before .before .before .before .before .before .before .before)) _ _ (found-scalar (c .before .before .before .before .before .before .before .before .before .before .before .before .before)) _ _ _ (c .before .before .before .before .before .before .before .before .before .note .ensures) (c .before .if2 .left) _ (ap noteSaid (c .before .before .before .n2 .given .1)),
+  search needs,
+  scalar-stands (turn (c .before .before .before .before .before .before .before .before .before .before .before .before .before .before .before .before .before .before .before)) _ (due-member (c .before .before .before .before .before .before .before .before .before .before .before .before .before .before .before .before .before)) _ _ (found-scalar (c .before .before .before .before .before .before .before .before .before .before .before .before .before)) _ _ _ (c .before .before .before .before .before .before .before .before .before .note .ensures),
 )
 
 enum-known-shape : tie.Need-enum-known-shape Inv-loop μ-loop
 enum-known-shape c = search needs
 
-cast-is-open : tie.Need-cast-is-open Inv-loop μ-loop
-cast-is-open c = omega (arith, short-number (turn (c .before .before .before .before .before .before .before)) _ _ _ _ (found-container (c .before)))
+cast-number : tie.Need-cast-number Inv-loop μ-loop
+cast-number c = omega (arith, short-number (turn (c .before .before .before .before .before .before .before)) _ _ _ _ (found-container (c .before)))
 
 is-open-requires : tie.Need-is-open-requires Inv-loop μ-loop
 is-open-requires c κs = search needs
@@ -359,11 +378,8 @@ mul-frames-5 c = search needs
 way-write-given-frames-2 : tie.Need-way-write-given-frames-2 Inv-loop μ-loop
 way-write-given-frames-2 c = search needs
 
-cast-t75 : tie.Need-cast-t75 Inv-loop μ-loop
-cast-t75 c = omega (arith, short-number (turn (c .before .before .before .before .before .before .before .before .before .before .before .before .before .before .before .before .before .before .before)) _ _ _ _ (found-container (c .before .before .before .before .before .before .before .before .before .before .before .before .before)))
-
-cast-t76 : tie.Need-cast-t76 Inv-loop μ-loop
-cast-t76 c = omega (arith, short-length (turn (c .before .before .before .before .before .before .before .before .before .before .before .before .before .before .before .before .before .before .before)) _ _ _ _ (found-container (c .before .before .before .before .before .before .before .before .before .before .before .before .before)))
+cast-t81 : tie.Need-cast-t81 Inv-loop μ-loop
+cast-t81 c = omega (arith, short-length (turn (c .before .before .before .before .before .before .before .before .before .before .before .before .before .before .before .before .before .before .before)) _ _ _ _ (found-container (c .before .before .before .before .before .before .before .before .before .before .before .before .before)))
 
 mul-frames-6 : tie.Need-mul-frames-6 Inv-loop μ-loop
 mul-frames-6 c = search needs
@@ -374,17 +390,22 @@ array-set-from-frames-2 c = search needs
 add-depth : tie.Need-add-depth Inv-loop μ-loop
 add-depth c = search needs
 
+container-at-requires : tie.Need-container-at-requires Inv-loop μ-loop
+container-at-requires c κs = search needs
+
 loop-less-3 : tie.Need-loop-less-3 Inv-loop μ-loop
 loop-less-3 c = search needs
 
 loop-again-3 : tie.Need-loop-again-3 Inv-loop μ-loop
 unfolding noteSaid nextIn
 loop-again-3 c = (
-  c .before .before .before .before .before .before .before .before .before .before .before .before .before .before .before .before .before .before .before .before .before .before .before .loop .inv .0,
-  c .before .before .before .before .before .before .note-plain2 .kept .0 ∙ c .before .before .before .before .before .before .before .before .before .before .before .before .before .before .before .before .before .before .before .before .before .before .before .loop .inv .1,
+  c .before .before .before .before .before .before .before .before .before .before .before .before .before .before .before .before .before .before .before .before .before .before .before .before .loop .inv .0,
+  c .before .before .before .before .before .before .before .note-plain2 .kept .0 ∙ c .before .before .before .before .before .before .before .before .before .before .before .before .before .before .before .before .before .before .before .before .before .before .before .before .loop .inv .1,
   omega arith,
   λ e. absurd (omega arith),
-  enter-goes (turn (c .before .before .before .before .before .before .before .before .before .before .before .before .before .before .before .before .before .before .before)) _ (due-member (c .before .before .before .before .before .before .before .before .before .before .before .before .before .before .before .before .before)) _ _ _ (found-container (c .before .before .before .before .before .before .before .before .before .before .before .before .before)) (sym (c .before .before .before .before .before .before .before .before .before .before .before .is-open .ensures) ∙ c .before .before .before .before .before .before .before .before .before .before .if3 .left) (c .before .before .before .before .before .before .before .before .before .if4 .left) _ (c .before .before .before .before .before .before .before .start-of .ensures) _ _ (c .before .before .before .before .before .before .note-plain2 .ensures .0) (c .before .before .before .before .before .before .note-plain2 .ensures .1) _ (ap noteSaid (c .before .before .n3 .given .1)),
+  enter-goes (turn (c .before .before .before .before .before .before .before .before .before .before .before .before .before .before .before .before .before .before .before .before)) _ (due-member (c .before .before .before .before .before .before .before .before .before .before .before .before .before .before .before .before .before .before)) _ _ _ (found-container (c .before .before .before .before .before .before .before .before .before .before .before .before .before .before)) (sym (c .before .before .before .before .before .before .before .before .before .before .before .before .is-open .ensures) ∙ c .before .before .before .before .before .before .before .before .before .before .before .if3 .left) (c .before .before .before .before .before .before .before .before .before .before .if4 .left) _ (c .before .before .before .before .before .before .before .before .start-of .ensures) _ _ (c .before .before .before .before .before .before .before .note-plain2 .ensures .0) (c .before .before .before .before .before .before .before .note-plain2 .ensures .1) _ (ap noteSaid (c .before .before .before .n3 .given .1)),
+  search needs,
+  enter-stands (turn (c .before .before .before .before .before .before .before .before .before .before .before .before .before .before .before .before .before .before .before .before)) _ (due-member (c .before .before .before .before .before .before .before .before .before .before .before .before .before .before .before .before .before .before)) _ _ _ (found-container (c .before .before .before .before .before .before .before .before .before .before .before .before .before .before)) (c .before .before .before .before .before .before .before .before .before .before .if4 .left) _ (c .container-at .ensures),
 )
 
 same-length-23 : tie.Need-same-length-23 Inv-loop μ-loop
@@ -431,6 +452,10 @@ walk-spec =
     returns-3
     mul-frames
     array-set-from-frames
+    sub-stands-at
+    mul-stands-at
+    element-copy-out-stands-at
+    stands-at-requires
     loop-less
     loop-again
     enum-known-object
@@ -470,7 +495,7 @@ walk-spec =
     loop-less-2
     loop-again-2
     enum-known-shape
-    cast-is-open
+    cast-number
     is-open-requires
     refused-requires-5
     same-length-17
@@ -493,11 +518,11 @@ walk-spec =
     add-frames-2
     mul-frames-5
     way-write-given-frames-2
-    cast-t75
-    cast-t76
+    cast-t81
     mul-frames-6
     array-set-from-frames-2
     add-depth
+    container-at-requires
     loop-less-3
     loop-again-3
     same-length-23

@@ -37,7 +37,7 @@ mul-due-from c = search needs
 due-from-requires : tie.Need-due-from-requires
 due-from-requires c κs =
     let f = c .before .before .before .before .before .before .args .frame in
-    (c .before .before .before .before .before .before .pre, omega (arith, bit-times (f .position % 2) (f .length) (omega arith)))
+    omega (arith, bit-times (f .position % 2) (f .length) (omega arith))
 
 returns-2 : tie.Need-returns-2
 unfolding inDictionary placeIn
