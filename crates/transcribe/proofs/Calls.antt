@@ -24,8 +24,8 @@ use Rattle.transcribe.specs.Note.{Noted, kept, noting, fromTape, putNote
 use Rattle.transcribe.specs.Run.{stopped, refused, run, byNoted, byNote, bySaid, runOf, transcriptOf, onward, endOf, finishedOf}
 use Rattle.transcribe.specs.RunLaws.{onward-turn, run-onward}
 use Rattle.transcribe.specs.Said.{failSaid}
-use Rattle.transcribe.specs.declared.Failure.{Failure}
-use Rattle.transcribe.specs.declared.Failure.the-variants as failure
+use Rattle.transcribe.specs.declared.note.Failure.{Failure}
+use Rattle.transcribe.specs.declared.note.Failure.the-variants as failure
 
 -- a call that is made, its answer and what noting it answers
 module _ (n : ℕ) (file scratch tape : List ℕ) (held : ℕ) (some : 0 < n) (x : Step) where

@@ -38,7 +38,7 @@ use Rattle.transcribe.specs.RunLaws.{run-onward}
 use Rattle.transcribe.specs.Said.{failSaid}
 use Rattle.transcribe.specs.Asking.{scalar-given}
 use Rattle.transcribe.specs.Walk.{Notable, dueNow, within}
-use Rattle.transcribe.specs.declared.Failure.{Failure}
+use Rattle.transcribe.specs.declared.note.Failure.{Failure}
 use Rattle.transcribe.proofs.Calls.{plain-noted, start-plain, call-refused, call-kept, call-failed, run-ended}
 
 -- where the innermost of these containers stands

@@ -6,10 +6,10 @@ use Rattle.transcribe.specs.Run.{End, ended, stopped}
 use Rattle.transcribe.specs.Run as run
 use Rattle.transcribe.specs.declared.Ending.{Ending}
 use Rattle.transcribe.specs.declared.Ending.the-variants.{Ended, Stopped, Refused, BadText, NoRoomForTape}
-use Rattle.transcribe.specs.declared.Failure.{Failure}
-use Rattle.transcribe.specs.declared.Failure.the-variants as failure
-use Rattle.transcribe.specs.declared.NoteAnswer.{NoteAnswer}
-use Rattle.transcribe.specs.declared.NoteAnswer.the-variants as answer
+use Rattle.transcribe.specs.declared.note.Failure.{Failure}
+use Rattle.transcribe.specs.declared.note.Failure.the-variants as failure
+use Rattle.transcribe.specs.declared.note.NoteAnswer.{NoteAnswer}
+use Rattle.transcribe.specs.declared.note.NoteAnswer.the-variants as answer
 
 unfoldable pub endSaid : Ending → End
 endSaid Ended = ended

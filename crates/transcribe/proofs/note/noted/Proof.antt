@@ -3,8 +3,8 @@ use Rattle.tape.specs.Append.{said}
 use Rattle.transcribe.specs.Note.{fromTape}
 use Rattle.transcribe.specs.Said.{noteSaid, failSaid}
 use borrow.Author.Needs.{needs}
-use Rattle.transcribe.proofs.noted.Statement.{statement}
-use Rattle.transcribe.proofs.noted.Tie as tie
+use Rattle.transcribe.proofs.note.noted.Statement.{statement}
+use Rattle.transcribe.proofs.note.noted.Tie as tie
 
 enum-known-appended : tie.Need-enum-known-appended
 enum-known-appended c = search needs

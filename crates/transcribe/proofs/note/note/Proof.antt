@@ -8,8 +8,8 @@ use Rattle.transcribe.specs.Note.{fromTape}
 use Rattle.transcribe.specs.Said.{noteSaid, failSaid}
 use Rattle.transcribe.proofs.Noting.{is-plain, plain-noted, file-end, file-noted, wide-end, never-bad, long-noted, text-fits, wide-noted}
 use borrow.Author.Needs.{needs}
-use Rattle.transcribe.proofs.note.Statement.{statement}
-use Rattle.transcribe.proofs.note.Tie as tie
+use Rattle.transcribe.proofs.note.note.Statement.{statement}
+use Rattle.transcribe.proofs.note.note.Tie as tie
 
 enum-told : tie.Need-enum-told
 enum-told c = search needs

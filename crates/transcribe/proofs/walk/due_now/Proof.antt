@@ -2,8 +2,8 @@
 use borrow.Author.Tests.{eq-eqb, ne-eqb}
 use borrow.Author.Needs.{needs}
 use Rattle.transcribe.specs.Walk.{dueNow}
-use Rattle.transcribe.proofs.due_now.Statement.{statement}
-use Rattle.transcribe.proofs.due_now.Tie as tie
+use Rattle.transcribe.proofs.walk.due_now.Statement.{statement}
+use Rattle.transcribe.proofs.walk.due_now.Tie as tie
 
 returns : tie.Need-returns
 unfolding dueNow

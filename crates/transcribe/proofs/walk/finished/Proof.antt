@@ -3,8 +3,8 @@ use mathlib.Core.Path.{refl}
 use Rattle.transcribe.specs.Said.{endSaid}
 use Rattle.transcribe.specs.Run.{finishedOf}
 use Rattle.transcribe.specs.RunLaws.{finished-ended}
-use Rattle.transcribe.proofs.finished.Statement.{statement}
-use Rattle.transcribe.proofs.finished.Tie as tie
+use Rattle.transcribe.proofs.walk.finished.Statement.{statement}
+use Rattle.transcribe.proofs.walk.finished.Tie as tie
 
 returns : tie.Need-returns
 unfolding endSaid finishedOf

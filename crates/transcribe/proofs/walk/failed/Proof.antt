@@ -3,8 +3,8 @@ use mathlib.Core.Path.{refl, _∙_}
 use Rattle.transcribe.specs.Said.{endSaid, failSaid}
 use Rattle.transcribe.specs.Run.{endOf}
 use borrow.Author.Needs.{needs}
-use Rattle.transcribe.proofs.failed.Statement.{statement}
-use Rattle.transcribe.proofs.failed.Tie as tie
+use Rattle.transcribe.proofs.walk.failed.Statement.{statement}
+use Rattle.transcribe.proofs.walk.failed.Tie as tie
 
 enum-known-failure : tie.Need-enum-known-failure
 enum-known-failure c = search needs

@@ -6,8 +6,8 @@ use Rattle.transcribe.specs.Asking.{plain-means}
 use Rattle.transcribe.specs.Note.{fromTape}
 use Rattle.transcribe.proofs.Noting.{put-taken}
 use borrow.Author.Needs.{needs}
-use Rattle.transcribe.proofs.note_plain.Statement.{statement}
-use Rattle.transcribe.proofs.note_plain.Tie as tie
+use Rattle.transcribe.proofs.note.note_plain.Statement.{statement}
+use Rattle.transcribe.proofs.note.note_plain.Tie as tie
 
 slice-aggregate-put : tie.Need-slice-aggregate-put
 slice-aggregate-put c = search needs

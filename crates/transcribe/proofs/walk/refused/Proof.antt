@@ -1,8 +1,8 @@
 -- `refused` ends a transcript by a refusal of the reader.
 use mathlib.Core.Path.{refl}
 use Rattle.transcribe.specs.Said.{endSaid}
-use Rattle.transcribe.proofs.refused.Statement.{statement}
-use Rattle.transcribe.proofs.refused.Tie as tie
+use Rattle.transcribe.proofs.walk.refused.Statement.{statement}
+use Rattle.transcribe.proofs.walk.refused.Tie as tie
 
 returns : tie.Need-returns
 unfolding endSaid

@@ -16,8 +16,8 @@ use Rattle.transcribe.specs.Said.{noteSaid, endSaid}
 use Rattle.transcribe.specs.Run.{onward}
 use Rattle.transcribe.proofs.Walking.{Stands, leftOf, due, looked, short-number, short-length, Turn, call-root, is-wrong, close-fails, close-finishes, close-goes, is-barred, is-missing, is-faulty, notable, counts, scalar-fails, scalar-finishes, scalar-goes, scalar-stands, is-open-now, is-deep, enter-fails, enter-goes, enter-stands}
 use Rattle.transcribe.proofs.Calls.{start-plain}
-use Rattle.transcribe.proofs.walk.Statement.{statement}
-use Rattle.transcribe.proofs.walk.Tie as tie
+use Rattle.transcribe.proofs.walk.walk.Statement.{statement}
+use Rattle.transcribe.proofs.walk.walk.Tie as tie
 
 abbrev Inv-loop : tie.InvT-loop
 Inv-loop file scratch₀ tape₀ budget layout root frames₀ depth₀ place₀ held₀ left₀ standing₀ scratch tape frames depth place held left standing = (length scratch ≡ length scratch₀) × (length tape ≡ length tape₀) × (depth ≤ maxOpen) × (depth ≡ 0 → frames ≡ replicate maxOpen noFrame) × (leftOf file layout root left scratch tape held place depth frames ≡ onward budget file scratch₀ tape₀ 0 (arrive (laidOut file layout) root (lookOf file layout root))) × (length frames ≡ maxOpen) × Stands file layout standing depth frames

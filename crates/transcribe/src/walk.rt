@@ -1,0 +1,219 @@
+// The walk through a file: its events from the root on, each noted on the tape.
+use crate::Ending;
+use crate::Transcript;
+use crate::note::Failure;
+use crate::note::NoteAnswer;
+use crate::note::note;
+use crate::note::note_plain;
+use event::Event;
+use object::container::container_at;
+use reader::answer::Refusal;
+use reader::layout::Due;
+use reader::layout::Layout;
+use reader::layout::Standing;
+use reader::layout::due_in;
+use reader::layout::stands_at;
+use reader::lookup::Look;
+use reader::lookup::look_up;
+use reader::lookup::start_of;
+use reader::state::Frame;
+use reader::state::Reader;
+use reader::state::is_open;
+ghost use mathlib.Core.Path.{_≡_};
+ghost use Prim.Native.Nat.{_≤_, _-_};
+ghost use lib.ListN.{length};
+ghost use Rattle.reader.specs.Layout.{lookOf};
+ghost use Rattle.reader.specs.Machine.{arrive};
+ghost use Rattle.reader.specs.Next.{laidOut};
+ghost use Rattle.reader.specs.Said.{numberOf, valuesOf};
+ghost use Rattle.reader.specs.State.{maxLength};
+ghost use Rattle.transcribe.specs.Run.{run, refused as refusedEnd, endOf, finishedOf, onward};
+ghost use Rattle.transcribe.specs.Said.{failSaid, endSaid};
+ghost use Rattle.transcribe.specs.Walk.{dueNow};
+
+// The events from the root on. The open containers stay in this function's own memory and change there: a reader that goes by value is
+// copied whole at every call, and that would be half of the work.
+pub(crate) fn walk(
+    file: &[u8],
+    scratch: &mut [u8],
+    tape: &mut [u8],
+    budget: u64,
+    layout: Layout,
+    root: u64,
+) -> Transcript
+    requires { ⌜ length (now file) ≤ maxLength ⌝ }
+    ensures { λ r. ⌜ run (endSaid (r .ending)) (r .held) (now (tape .exit)) (now (scratch .exit)) ≡ onward budget (now (file .entry)) (now (scratch .entry)) (now (tape .entry)) 0 (arrive (laidOut (now (file .entry)) layout) root (lookOf (now (file .entry)) layout root)) ⌝ }
+{
+    let mut frames = [Frame::NONE; Reader::MAX_OPEN];
+    let mut depth: usize = 0;
+    let mut place = layout.table as u64;
+    let mut held: usize = 0;
+    let mut left = budget;
+    // the innermost open container, looked at once and not again for each of its references
+    let mut standing = Standing::NOWHERE;
+    while 0 < left {
+        left -= 1;
+        let top = innermost(depth);
+        match due_now(file, layout, root, depth, frames[top], standing) {
+            Due::Wrong => {
+                return refused(Refusal::WrongFile, 0, held);
+            }
+            Due::Close(_) => match note_plain(tape, held, Event::EndCollection) {
+                NoteAnswer::Fails(failure) => {
+                    return failed(failure, held);
+                }
+                NoteAnswer::Held(n) => {
+                    if top == 0 {
+                        return finished(left, n);
+                    }
+                    frames[top] = Frame::NONE;
+                    depth = top;
+                    standing = stands_at(file, layout, frames[top - 1].object);
+                    held = n;
+                    continue;
+                }
+            },
+            Due::Member(object) => match look_up(file, layout, object) {
+                Look::Barred(refusal) => {
+                    return refused(refusal, place, held);
+                }
+                Look::Missing => {
+                    return refused(Refusal::WrongFile, 0, held);
+                }
+                Look::Faulty(refusal, offset) => {
+                    return refused(refusal, offset, held);
+                }
+                Look::Scalar(event, bytes, offset) => match note(
+                    file,
+                    scratch,
+                    tape,
+                    held,
+                    event,
+                    bytes,
+                    offset,
+                ) {
+                    NoteAnswer::Fails(failure) => {
+                        return failed(failure, held);
+                    }
+                    NoteAnswer::Held(n) => {
+                        if depth == 0 {
+                            return finished(left, n);
+                        }
+                        frames[top].position = frames[top].position + 1;
+                        place = offset;
+                        held = n;
+                        continue;
+                    }
+                },
+                Look::Container(shape, length, offset) => {
+                    let number = object as u32;
+                    if is_open(frames, depth, number) {
+                        return refused(Refusal::RecursiveObject, offset, held);
+                    }
+                    if Reader::MAX_OPEN <= depth {
+                        return refused(Refusal::TooDeep, offset, held);
+                    }
+                    match note_plain(tape, held, start_of(shape, length)) {
+                        NoteAnswer::Fails(failure) => {
+                            return failed(failure, held);
+                        }
+                        NoteAnswer::Held(n) => {
+                            // With nothing open the first frame is written over at once.
+                            frames[top].position = frames[top].position + 1;
+                            frames[depth] = Frame {
+                                object: number,
+                                position: 0,
+                                length: length as u32,
+                            };
+                            depth += 1;
+                            standing = Standing {
+                                offset,
+                                container: container_at(file, offset as usize),
+                            };
+                            place = offset;
+                            held = n;
+                            continue;
+                        }
+                    }
+                }
+            },
+        }
+    }
+    Transcript {
+        ending: Ending::Stopped,
+        held,
+    }
+}
+
+// Where the innermost open container stands; with none open, where the first one will.
+fn innermost(depth: usize) -> usize
+    ensures { λ r. ⌜ r ≡ depth - 1 ⌝ }
+{
+    if depth == 0 {
+        return 0;
+    }
+    depth - 1
+}
+
+// What is due: the root where nothing is open yet, else what the innermost container says.
+fn due_now(
+    file: &[u8],
+    layout: Layout,
+    root: u64,
+    depth: usize,
+    frame: Frame,
+    standing: Standing,
+) -> Due
+    ensures { λ r. ⌜ r ≡ dueNow (now (file .entry)) layout root depth frame standing ⌝ }
+{
+    if depth == 0 {
+        return Due::Member(root);
+    }
+    due_in(file, layout, frame, standing)
+}
+
+// Nothing is open any more: the end, unless the budget is used up.
+fn finished(left: u64, held: usize) -> Transcript
+    ensures { λ r. ⌜ endSaid (r .ending) ≡ finishedOf left ⌝ }
+    ensures { λ r. ⌜ r .held ≡ held ⌝ }
+{
+    if left == 0 {
+        return Transcript {
+            ending: Ending::Stopped,
+            held,
+        };
+    }
+    Transcript {
+        ending: Ending::Ended,
+        held,
+    }
+}
+
+// A refusal ends it.
+pub(crate) fn refused(refusal: Refusal, place: u64, held: usize) -> Transcript
+    ensures { λ r. ⌜ endSaid (r .ending) ≡ refusedEnd (numberOf refusal) (valuesOf refusal) place ⌝ }
+    ensures { λ r. ⌜ r .held ≡ held ⌝ }
+{
+    Transcript {
+        ending: Ending::Refused(refusal, place),
+        held,
+    }
+}
+
+// An event that is not noted ends the transcript.
+fn failed(failure: Failure, held: usize) -> Transcript
+    ensures { λ r. ⌜ endSaid (r .ending) ≡ endOf (failSaid failure) ⌝ }
+    ensures { λ r. ⌜ r .held ≡ held ⌝ }
+{
+    match failure {
+        Failure::Refused(refusal, place) => refused(refusal, place, held),
+        Failure::BadText(place) => Transcript {
+            ending: Ending::BadText(place),
+            held,
+        },
+        Failure::NoRoomForTape(place) => Transcript {
+            ending: Ending::NoRoomForTape(place),
+            held,
+        },
+    }
+}
