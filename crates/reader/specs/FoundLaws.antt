@@ -36,6 +36,8 @@ foundBytes (found.utf16 start n) = wide start n
 foundBytes (found.array n) = denied 17 []
 foundBytes (found.dictionary n) = denied 17 []
 
+-- what is known of a thing that is found: a refusal is one of the reader's own; a scalar has no bytes; data and text are found again, y, with
+-- references of one byte, and text is text
 abbrev pub Found-right : List ℕ → Found → Found → Type 0
 Found-right file found.outside y = Unit {0}
 Found-right file (found.refused number values) y = number < 16

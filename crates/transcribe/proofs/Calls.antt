@@ -1,12 +1,9 @@
 -- One call of a run: what its answer and the note of it do; the first call; the end.
-use mathlib.Core.Bool.{Bool, true, false}
+use mathlib.Core.Bool.{false}
 use mathlib.Core.List.{List, []}
 use mathlib.Core.Path.{_≡_, refl, sym, ap, _∙_}
-use Prim.Native.Nat.{ℕ, zero, suc, _-_, _<_, _≤_}
+use Prim.Native.Nat.{ℕ, zero, suc, _-_, _<_}
 use native.Mathlib.Omega.{arith}
-use borrow.Author.Tests.{ltb-false}
-use lib.Dec.{ltb}
-use lib.ListN.{length}
 use Rattle.event.specs.Meaning.{meaningOf}
 use Rattle.event.specs.declared.Event.{Event}
 use Rattle.reader.specs.Layout.{lookOf}
@@ -15,7 +12,7 @@ use Rattle.reader.specs.Machine as reader
 use Rattle.reader.specs.Next.{laidOut, begin}
 use Rattle.reader.specs.NextLaws.{next-begin, next-ended}
 use Rattle.reader.specs.Request.{hasBytes}
-use Rattle.reader.specs.State.{maxLength, freshReader, endedReader}
+use Rattle.reader.specs.State.{freshReader, endedReader}
 use Rattle.reader.specs.Trailer.{keeps, ends, lays, trailerIn}
 use Rattle.reader.specs.declared.layout.Layout.{Layout}
 use Rattle.reader.specs.declared.state.Reader.{Reader}
@@ -92,12 +89,3 @@ module _ (n : ℕ) (file scratch tape : List ℕ) where
   pub begins-lays : (l : Layout) (root : ℕ) → lays l root ≡ trailerIn file → onward n file scratch tape 0 (arrive (laidOut file l) root (lookOf file l root)) ≡ transcriptOf n file scratch tape
   unfolding begin
   begins-lays l root e = sym (begins ∙ rw (← e))
-
--- a file that is laid out isn't too long
-pub lays-short : (file : List ℕ) (l : Layout) (root : ℕ) → lays l root ≡ trailerIn file → length file ≤ maxLength
-unfolding trailerIn
-lays-short file l root e = go (ltb maxLength (length file)) refl
-  where
-    go : (b : Bool) → ltb maxLength (length file) ≡ b → length file ≤ maxLength
-    go true f = let z : _≡_ {A = ℕ} 0 1 = cc in absurd (omega arith)
-    go false f = ltb-false _ _ f

@@ -28,23 +28,20 @@ use Rattle.reader.specs.declared.request.Asked.{Asked as AskedRead}
 use Rattle.reader.specs.declared.request.Asked.the-variants.{InFile, Wide, Denied}
 use Rattle.reader.proofs.Inside.{AskedIn, asked-in}
 use Rattle.reader.proofs.Wide.{is-written, no-room, is-text, filled}
+use Rattle.tape.specs.AppendLaws.{put-event}
 use Rattle.tape.specs.Append.{putOf, putTo, appendOf, appendTo}
 use Rattle.tape.specs.Code.{bytesFor, allowed}
+use Rattle.transcribe.proofs.Calls.{plain-noted as noted-plain}
 use Rattle.transcribe.specs.Asking.{Given, given-allowed}
 use Rattle.transcribe.specs.Note.{Noted, noting, fromTape, putNote, noteOf}
 use Rattle.transcribe.specs.Note as note
 use Rattle.transcribe.specs.TranscriptLaws.{wideText, note-file, note-long, note-wide}
 use Rattle.transcribe.specs.Walk.{Notable}
 
--- what the tape takes is appended as it is put
-pub put-taken : (tape : List ℕ) (held : ℕ) (m : Meaning) → allowed m ≡ true → (putOf tape held (bytesFor m) ≡ appendOf tape held m) × (putTo tape held (bytesFor m) ≡ appendTo tape held m)
-unfolding appendOf appendTo
-put-taken tape held m a = (rw a, rw a)
-
 -- a note, from what the tape answers and what becomes of it
 put-is : (s tape t : List ℕ) (held : ℕ) (m : Meaning) (n : Noted) → allowed m ≡ true → n ≡ fromTape (putOf tape held (bytesFor m)) → t ≡ putTo tape held (bytesFor m) → noting n t s ≡ putNote s tape held m
 unfolding putNote
-put-is s tape t held m n a u v = let p = put-taken tape held m a in rw (u ∙ ap fromTape (p .0), v ∙ p .1)
+put-is s tape t held m n a u v = let p = put-event tape held m a (refl, refl) in rw (u ∙ ap fromTape (p .0), v ∙ p .1)
 
 -- a part of a file as it is lent
 abbrev lent : List ℕ → Part → List ℕ
@@ -118,8 +115,7 @@ module _ {file : List ℕ} {e : Event} {bytes : AskedRead} {offset : ℕ} (w : N
     is-plain = given {a = denied (numberOf r) (valuesOf r)} (rw h)
 
     pub plain-noted : (scratch tape : List ℕ) (held : ℕ) (y : Noted) (t : List ℕ) → y ≡ fromTape (appendOf tape held (meaningOf e [])) → t ≡ appendTo tape held (meaningOf e []) → noting y t scratch ≡ noteOf file scratch tape held handed
-    unfolding noteOf putNote
-    plain-noted scratch tape held y t u v = rw (is-plain, u, v)
+    plain-noted scratch tape held y t = noted-plain file scratch tape t held e offset y is-plain
 
   -- bytes of the file
   module _ {p : Part} (h : bytes ≡ InFile p) where

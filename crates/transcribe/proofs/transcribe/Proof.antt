@@ -3,7 +3,8 @@ use mathlib.Core.Path.{sym, ap, _∙_}
 use borrow.Author.Needs.{needs}
 use Rattle.reader.specs.Said.{trailerSaid}
 use Rattle.transcribe.specs.Said.{endSaid}
-use Rattle.transcribe.proofs.Calls.{begins-none, begins-keeps, begins-ends, begins-lays, lays-short}
+use Rattle.reader.proofs.Short.{laid-short}
+use Rattle.transcribe.proofs.Calls.{begins-none, begins-keeps, begins-ends, begins-lays}
 use Rattle.transcribe.proofs.transcribe.Statement.{statement}
 use Rattle.transcribe.proofs.transcribe.Tie as tie
 
@@ -31,7 +32,7 @@ enum-known-layout c = search needs
 
 walk-requires : tie.Need-walk-requires
 unfolding trailerSaid
-walk-requires c κs = lays-short _ _ _ (sym (ap trailerSaid (c .before .before .before .layout .given .1)) ∙ c .before .before .before .before .before .trailer-of .ensures)
+walk-requires c κs = laid-short _ _ _ (sym (c .before .before .before .before .before .trailer-of .ensures) ∙ ap trailerSaid (c .before .before .before .layout .given .1))
 
 returns-2 : tie.Need-returns-2
 unfolding trailerSaid

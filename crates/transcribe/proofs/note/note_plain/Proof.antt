@@ -1,11 +1,11 @@
 -- `note_plain` puts an event without bytes, which the tape always takes.
 use mathlib.Core.List.{[]}
-use mathlib.Core.Path.{ap, _∙_}
+use mathlib.Core.Path.{refl, ap, _∙_}
 use Rattle.event.specs.Meaning.{meaningOf}
 use Rattle.transcribe.specs.Asking.{plain-means}
 use Rattle.transcribe.specs.Note.{fromTape}
-use Rattle.transcribe.proofs.Noting.{put-taken}
 use borrow.Author.Needs.{needs}
+use Rattle.tape.specs.AppendLaws.{put-event}
 use Rattle.transcribe.proofs.note.note_plain.Statement.{statement}
 use Rattle.transcribe.proofs.note.note_plain.Tie as tie
 
@@ -25,7 +25,7 @@ returns : tie.Need-returns
 returns c =
     let a = c .before .before .before .before .before .before .before .args in
     let p = c .before .before .before .put in
-    let t = put-taken (a .tape .now) (a .held) (meaningOf (a .event) []) (plain-means (a .event) [] (c .before .before .before .before .before .before .before .pre) .1) in (
+    let t = put-event (a .tape .now) (a .held) (meaningOf (a .event) []) (plain-means (a .event) [] (c .before .before .before .before .before .before .before .pre) .1) (refl, refl) in (
       c .noted .ensures ∙ ap fromTape (p .ensures .0 ∙ t .0),
       p .ensures .1 ∙ t .1,
     )
