@@ -13,12 +13,13 @@ use Rattle.number.specs.Width.{bytesIn, widthOf}
 use Rattle.number.specs.declared.width.Size.{Size}
 use Rattle.number.specs.declared.width.Size.the-variants.{Allowed, NotAllowed}
 use Rattle.number.specs.declared.width.Width.{Width}
+use Rattle.event.specs.Format.{magic}
 use Rattle.object.specs.Content.{trailerAt}
 use Rattle.reader.specs.Layout.{lookOf, sourceOf}
 use Rattle.reader.specs.Machine.{Said, event, ended, refused, Step, step, Looked, barred, missing, faulty, scalar, container, Shape, enter, arrive, follow, stepOf}
 use Rattle.reader.specs.Next.{laidOut, begin, withRefs, goOn, nextOf}
 use Rattle.reader.specs.State.{maxOpen, maxLength, endedReader, openOf, innermost, memberOf}
-use Rattle.reader.specs.Trailer.{Trailer, keeps, lays, magic, begins, eightAt, tableOf, refSizeOf, sizesOf, trailerOf}
+use Rattle.reader.specs.Trailer.{Trailer, keeps, lays, begins, eightAt, tableOf, refSizeOf, sizesOf, trailerOf}
 use Rattle.reader.specs.declared.layout.Due.{Due}
 use Rattle.reader.specs.declared.layout.Due.the-variants.{Wrong, Close, Member}
 use Rattle.reader.specs.declared.layout.Layout.{Layout}

@@ -4,6 +4,7 @@ use mathlib.Core.Path.{_≡_, refl}
 use Prim.Native.Nat.{ℕ}
 use Rattle.number.specs.Be.{onto, be, bytesOf}
 use Rattle.number.specs.Width.{bytesIn, widthOf}
+use Rattle.event.specs.Format.{magic}
 use Rattle.event.specs.declared.Event.the-variants.{StartArray}
 use Rattle.event.specs.declared.Length.the-variants.{Given}
 use Rattle.object.specs.Container.{containerOf, containerAt}
@@ -14,7 +15,7 @@ use Rattle.reader.specs.Layout.{numberAt, entryAt, given, dueAt, inArray, dueIn
 use Rattle.reader.specs.Machine.{event, ended, refused, startOf, enter, arrive, follow, stepOf}
 use Rattle.reader.specs.Next.{laidOut, begin, withRefs, goOn, nextOf}
 use Rattle.reader.specs.State.{openOf, innermost, memberOf, nextIn, advanced, passed, entered, closed}
-use Rattle.reader.specs.Trailer.{magic, begins, eightAt, tableOf, refSizeOf, sizesOf, trailerOf}
+use Rattle.reader.specs.Trailer.{begins, eightAt, tableOf, refSizeOf, sizesOf, trailerOf}
 use Rattle.claims.specs.Calls.{runs, answerOf}
 
 -- the object `A1 00` at 8, as object 0; its entry at 10; the trailer

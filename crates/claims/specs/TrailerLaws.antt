@@ -10,8 +10,9 @@ use Rattle.number.specs.Width.{bytesIn, widthOf}
 use Rattle.number.specs.declared.width.Size.{Size}
 use Rattle.number.specs.declared.width.Size.the-variants.{Allowed, NotAllowed}
 use Rattle.number.specs.declared.width.Width.{Width}
+use Rattle.event.specs.Format.{magic}
 use Rattle.object.specs.Content.{trailerAt}
-use Rattle.reader.specs.Trailer.{Trailer, keeps, ends, lays, magic, begins, eightAt, tableOf, refSizeOf, sizesOf, trailerOf}
+use Rattle.reader.specs.Trailer.{Trailer, keeps, ends, lays, begins, eightAt, tableOf, refSizeOf, sizesOf, trailerOf}
 use Rattle.reader.specs.declared.layout.Layout.{Layout}
 use Rattle.claims.specs.Look.{Laid}
 

@@ -1,3 +1,4 @@
+pub mod Format
 pub mod Meaning
 pub mod Real
 pub mod RealCases

@@ -11,12 +11,11 @@ use Rattle.event.specs.declared.Event.the-variants.{Real, Nan}
 unfoldable pub realOf : ℕ → Event
 realOf b = cond (nanBits binary64 b) (Nan b) (Real (ofBits binary64 b))
 
--- Document 01: "For a 32-bit NaN we fix: sign kept, quiet bit set, fraction shifted by 29". The fraction has 23 bits; the quiet
--- bit is its top one, which is bit 51 of the 64
+-- a NaN of 32 bits made wider (docs/FORMAT.md, R11). The fraction has 23 bits; the quiet bit is its top one, which is bit 51 of the 64
 unfoldable pub wideNan : ℕ → ℕ
 wideNan b = cond (leb 0x8000_0000 b) 0x8000_0000_0000_0000 0 + 0x7FF8_0000_0000_0000 + b % 0x40_0000 * 0x2000_0000
 
--- Document 01: "22 is widened exactly": the float is the number of the 32 bits
+-- any other: the float is the number of the 32 bits (R11)
 unfoldable pub shortRealOf : ℕ → Event
 shortRealOf b = cond (nanBits binary32 b) (Nan (wideNan b)) (Real (ofBits binary32 b))
 

@@ -1,4 +1,4 @@
--- IEEE 754's worked examples, 32 bits to 64, and document 01's rule for NaN, computed.
+-- IEEE 754's worked examples, 32 bits to 64, and the rule for NaN, computed. docs/FORMAT.md, rule R11.
 use mathlib.Core.List.{[], _∷_, map}
 use mathlib.Core.Path.{_≡_, refl}
 use Prim.Native.Nat.{ℕ}

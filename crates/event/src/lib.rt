@@ -1,4 +1,5 @@
 // What a property list says, one event at a time.
+pub mod limits;
 pub mod real;
 
 // A number that an i64 or a u64 holds. Two are compared by value.

@@ -23,3 +23,31 @@ pub fn after(s: &[u8], at: usize) -> usize
 {
     if at < s.len() { at + 1 } else { s.len() }
 }
+
+// The decimal number that stands at a place; 0 where none does. It stays at the top rather than pass it.
+pub fn number(s: &[u8], from: usize) -> u64 {
+    let mut n: u64 = 0;
+    let mut i = from;
+    while i < s.len() {
+        let digit = s[i];
+        if digit < b'0' {
+            return n;
+        }
+        if b'9' < digit {
+            return n;
+        }
+        n = with_digit(n, (digit - b'0') as u64);
+        i += 1;
+    }
+    n
+}
+
+fn with_digit(n: u64, digit: u64) -> u64 {
+    if 9 < digit {
+        return n;
+    }
+    if n <= (0xffff_ffff_ffff_ffff - digit) / 10 {
+        return n * 10 + digit;
+    }
+    0xffff_ffff_ffff_ffff
+}

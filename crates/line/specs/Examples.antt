@@ -1,4 +1,4 @@
--- Computed lines. Document 01: the listing of P10, whole; and both ends of what a line can hold.
+-- Computed lines: the listing of P10 of docs/FORMAT.md, whole; and both ends of what a line can hold.
 use mathlib.Core.Bool.{true, false}
 use mathlib.Core.List.{List, [], _∷_, _++_}
 use mathlib.Core.Option.{none, some}

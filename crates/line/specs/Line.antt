@@ -1,6 +1,4 @@
--- The lines of a listing. Document 01: "The listing of P10, whole, one line each: `events`, `array 3`, `int 1`, `str 1 61`, `int 1`, `close`, `end`.
--- Others: `dict n`, `true`, `false`, `uid n`, `data n hex`, `real` and `date` with 16 lower-case hex digits; `str` and `data` count bytes handed out;
--- nothing follows a zero length. A refusal ends it as `refused N at P`". Decided besides: `int -1` for negative integers, and a newline after every line.
+-- The lines of a listing. docs/FORMAT.md, rules L1 to L3.
 use mathlib.Core.Bool.{Bool, true, false, cond}
 use mathlib.Core.List.{List, [], _∷_, _++_}
 use mathlib.Core.Option.{Option, none, some}
@@ -34,7 +32,7 @@ unfoldable pub hex : List ℕ → List ℕ
 hex [] = []
 hex (b ∷ bs) = hexDigit (b / 16) ∷ hexDigit (b % 16) ∷ hex bs
 
--- bytes behind a space; "nothing follows a zero length", not even the space
+-- bytes behind a space; nothing follows a zero length, not even the space (L2)
 unfoldable pub tail : List ℕ → List ℕ
 tail [] = []
 tail (b ∷ bs) = 32 ∷ hex (b ∷ bs)

@@ -1,4 +1,4 @@
--- Big-endian numbers of any width. Document 01, port order 1; Apple's notes: "big-endian" in each row of the table of objects.
+-- Big-endian numbers of any width. docs/FORMAT.md, rule R1.
 use mathlib.Core.List.{List, [], _∷_, _++_}
 use Prim.Native.Nat.{ℕ, zero, suc, _+_, _*_, _/_, _%_}
 

@@ -1,4 +1,4 @@
--- Document 01's cases of numbers, computed: P1, and the bits of P2, P3 and P4.
+-- Cases of numbers of docs/FORMAT.md, computed: P1, and the bits of P2, P3 and P4.
 use mathlib.Core.Path.{_≡_, refl}
 use mathlib.Core.List.{[], _∷_, _++_, map}
 use lib.IntN.{negsuc}

@@ -1,4 +1,4 @@
--- What a part of a slice is when it is read as a number. Document 01, port order 1: numbers of 1 to 8 bytes, and 16 as two halves.
+-- What a part of a slice is when it is read as a number: 1 to 8 bytes, or 16 as two halves.
 use mathlib.Core.Bool.{cond}
 use mathlib.Core.List.{List}
 use Prim.Native.Nat.{ℕ}

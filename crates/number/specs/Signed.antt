@@ -6,7 +6,7 @@ use lib.IntN.{ℤ, pos, negsuc}
 use Rattle.number.specs.declared.signed.Negative.{Negative}
 use Rattle.number.specs.declared.signed.Negative.the-variants.{Of, TooLow}
 
--- Apple's notes: integers of 8 bytes "are two's complement": n below 2^63, else n - 2^64, which is -1 - (2^64 - 1 - n)
+-- two's complement of 8 bytes: n below 2^63, else n - 2^64, which is -1 - (2^64 - 1 - n)
 unfoldable pub signedOf : ℕ → ℤ
 signedOf n = cond (ltb n 0x8000_0000_0000_0000) (pos n) (negsuc (0xffff_ffff_ffff_ffff - n))
 
@@ -15,11 +15,11 @@ unfoldable pub bitsOf : ℤ → ℕ
 bitsOf (pos n) = n
 bitsOf (negsuc k) = 0xffff_ffff_ffff_ffff - k
 
--- Document 01, event tape: "integer at or above zero", "negative integer n as -1 - n"
+-- what stands on the tape for an integer from 0 on, and for a negative one (docs/FORMAT.md, T2)
 unfoldable pub magnitudeOf : ℤ → ℕ
 magnitudeOf (pos n) = n
 magnitudeOf (negsuc k) = k
 
--- and back: "at most 2^63 - 1"
+-- and back: no integer is below -2^63 (T3)
 unfoldable pub negativeOf : ℕ → Negative
 negativeOf k = cond (ltb k 0x8000_0000_0000_0000) (Of (negsuc k)) TooLow

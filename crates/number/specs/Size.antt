@@ -1,4 +1,4 @@
--- The size of a maximum. Document 01, writer rules: "bytes needed, rounded up to 1, 2, 4, 8; zero gives 1".
+-- The size of a maximum: 1, 2, 4 or 8 bytes, the fewest that hold it. docs/FORMAT.md, rules W7, W12 and W14.
 use mathlib.Core.Bool.{cond}
 use Prim.Native.Nat.{ℕ, zero, suc, _/_}
 use lib.Dec.{leb, eqb}

@@ -1,4 +1,4 @@
--- The widths of offsets and references. Document 01, reader rules: "Sizes must be 1, 2, 3, 4 or 8."
+-- The widths of offsets and references. docs/FORMAT.md, rule R3.
 use mathlib.Core.Bool.{cond}
 use Prim.Native.Nat.{ℕ}
 use lib.Dec.{eqb}

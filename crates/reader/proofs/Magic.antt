@@ -11,7 +11,8 @@ use lib.Seq.{length-take-le}
 use Rattle.number.specs.Be.{be, onto, bytesOf}
 use Rattle.number.specs.BeLaws.{Bytes, bytesOf-be}
 use Rattle.object.specs.Content.{part}
-use Rattle.reader.specs.Trailer.{begins, magic}
+use Rattle.event.specs.Format.{magic}
+use Rattle.reader.specs.Trailer.{begins}
 
 -- a list that begins with another has it in front
 begins-take : (m s : List ℕ) → begins m s ≡ true → take (length m) s ≡ m

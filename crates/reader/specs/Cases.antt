@@ -9,6 +9,7 @@ use Rattle.number.specs.Be.{be, onto}
 use Rattle.number.specs.Signed.{signedOf}
 use Rattle.number.specs.Width.{widthOf, bytesIn}
 use Rattle.unicode.specs.Unicode.{isUtf16, isEven, paired, unitsOf, isHigh, isLow, toUtf8, utf8, utf8Of, scalars16}
+use Rattle.event.specs.Format.{magic}
 use Rattle.event.specs.Meaning.{array, close, integer, bytes, text, meaningOf, valueOf, givenOf}
 use Rattle.object.specs.Container.{containerAt, containerOf}
 use Rattle.object.specs.Content.{contentAt, extentAt, roomFor, lengthWidth}
@@ -20,7 +21,7 @@ use Rattle.reader.specs.Meanings.{Told, means, ended, refused, answers, 
 use Rattle.reader.specs.Next.{laidOut, begin, withRefs, goOn, nextOf}
 use Rattle.reader.specs.Request.{dataAsked, textAsked, eventAsked}
 use Rattle.reader.specs.State.{freshReader, openOf, innermost, memberOf, advanced, passed, entered, nextIn, closed}
-use Rattle.reader.specs.Trailer.{magic, begins, eightAt, tableOf, refSizeOf, sizesOf, trailerOf}
+use Rattle.reader.specs.Trailer.{begins, eightAt, tableOf, refSizeOf, sizesOf, trailerOf}
 
 -- a number below 256 in 8 bytes, and a trailer with sizes of 1 byte: count, root 0, table offset
 abbrev eight : ℕ → List ℕ

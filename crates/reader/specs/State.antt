@@ -4,16 +4,16 @@ use mathlib.Core.List.{List, [], _∷_}
 use Prim.Native.Nat.{ℕ, _+_, _-_}
 use lib.Dec.{eqb}
 use lib.ListN.{replicate, set, getD, take}
+use Rattle.event.specs.Format as limits
 use Rattle.reader.specs.declared.state.Frame.{Frame}
 use Rattle.reader.specs.declared.state.Reader.{Reader}
 
--- Document 01: "At most 64 containers are open at once"
+-- as the writer has them
 abbrev pub maxOpen : ℕ
-maxOpen = 64
+maxOpen = limits.maxOpen
 
--- Document 01: "Files and tapes hold at most 2,147,483,648 bytes."
 abbrev pub maxLength : ℕ
-maxLength = 2_147_483_648
+maxLength = limits.maxLength
 
 abbrev pub noFrame : Frame
 noFrame = record { object = 0; position = 0; length = 0 }

@@ -10,6 +10,7 @@ use Rattle.number.specs.Width.{bytesIn, widthOf}
 use Rattle.number.specs.declared.width.Size.{Size}
 use Rattle.number.specs.declared.width.Size.the-variants.{Allowed, NotAllowed}
 use Rattle.number.specs.declared.width.Width.{Width}
+use Rattle.event.specs.Format.{magic}
 use Rattle.object.specs.Content.{part, trailerAt}
 use Rattle.reader.specs.State.{maxLength}
 use Rattle.reader.specs.declared.layout.Layout.{Layout}
@@ -19,10 +20,6 @@ pub data Trailer : Type 0 where
   keeps : ℕ → List ℕ → ℕ → Trailer
   ends : ℕ → List ℕ → ℕ → Trailer
   lays : Layout → ℕ → Trailer
-
--- "bplist00"
-unfoldable pub magic : List ℕ
-magic = 0x62 ∷ 0x70 ∷ 0x6C ∷ 0x69 ∷ 0x73 ∷ 0x74 ∷ 0x30 ∷ 0x30 ∷ []
 
 -- whether a list begins with another
 unfoldable pub begins : List ℕ → List ℕ → Bool

@@ -33,9 +33,9 @@ impl Frame {
 }
 
 impl Reader {
-    pub const MAX_OPEN: usize = 64;
+    pub const MAX_OPEN: usize = event::limits::MAX_OPEN;
 
-    pub const MAX_LENGTH: usize = 2_147_483_648;
+    pub const MAX_LENGTH: usize = event::limits::MAX_LENGTH;
 
     pub const FRESH: Reader = Reader {
         fresh: true,

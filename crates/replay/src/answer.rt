@@ -1,9 +1,9 @@
 // The answers to the lines of standard input: a block for a file, and what forged.rt says of a forged state or record.
 use crate::forged::forged;
-use crate::lines::fill;
-use crate::lines::keep;
 use hexlines::hex::decode;
 use hexlines::line::next;
+use hexlines::stream::fill;
+use hexlines::stream::keep;
 use libc::STDOUT_FILENO;
 use line::put::Fixed;
 use reader::answer::Answer;
@@ -75,7 +75,7 @@ fn one(digits: &[u8]) {
 }
 
 fn block(file: &[u8], scratch: &mut [u8], out: &mut [u8]) {
-    say_fixed(out, Fixed::Events);
+    say_fixed(STDOUT_FILENO, out, Fixed::Events);
     let mut reader = Reader::FRESH;
     let mut left: u64 = EVENTS;
     while 0 < left {
@@ -84,14 +84,14 @@ fn block(file: &[u8], scratch: &mut [u8], out: &mut [u8]) {
         reader = after;
         let answer = stepped.answer;
         let Answer::Handed(handed) = answer else {
-            say_answer(file, scratch, out, answer);
+            say_answer(STDOUT_FILENO, file, scratch, out, answer);
             then(file, scratch, out, reader);
             return;
         };
-        say_event(file, scratch, out, handed);
+        say_event(STDOUT_FILENO, file, scratch, out, handed);
         left -= 1;
     }
-    say_fixed(out, Fixed::Stopped);
+    say_fixed(STDOUT_FILENO, out, Fixed::Stopped);
 }
 
 // Two calls more.
@@ -99,12 +99,12 @@ fn then(file: &[u8], scratch: &mut [u8], out: &mut [u8], reader: Reader) {
     let stepped = reader.next(file);
     let answer = stepped.answer;
     io::write_all(STDOUT_FILENO, b"then ");
-    say_answer(file, scratch, out, answer);
+    say_answer(STDOUT_FILENO, file, scratch, out, answer);
     let after = stepped.reader;
     let again = after.next(file);
     let answer = again.answer;
     io::write_all(STDOUT_FILENO, b"then ");
-    say_answer(file, scratch, out, answer);
+    say_answer(STDOUT_FILENO, file, scratch, out, answer);
 }
 
 fn is_capital(line: &[u8]) -> bool {

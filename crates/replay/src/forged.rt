@@ -4,6 +4,7 @@ use event::Length;
 use hexlines::hex::decode;
 use hexlines::hex::least;
 use hexlines::line::next;
+use hexlines::line::number;
 use libc::STDOUT_FILENO;
 use reader::answer::Answer;
 use reader::answer::Record;
@@ -59,34 +60,6 @@ fn after(s: &[u8], from: usize) -> usize
     s.len()
 }
 
-// The decimal number that stands at a place; 0 where none does. It stays at the top rather than pass it.
-fn number(s: &[u8], from: usize) -> u64 {
-    let mut n: u64 = 0;
-    let mut i = from;
-    while i < s.len() {
-        let digit = s[i];
-        if digit < b'0' {
-            return n;
-        }
-        if b'9' < digit {
-            return n;
-        }
-        n = with_digit(n, (digit - b'0') as u64);
-        i += 1;
-    }
-    n
-}
-
-fn with_digit(n: u64, digit: u64) -> u64 {
-    if 9 < digit {
-        return n;
-    }
-    if n <= (0xffff_ffff_ffff_ffff - digit) / 10 {
-        return n * 10 + digit;
-    }
-    0xffff_ffff_ffff_ffff
-}
-
 fn word(s: &[u8], at: usize) -> u32 {
     (number(s, at) % 0x1_0000_0000) as u32
 }
@@ -136,7 +109,7 @@ fn say_step(file: &[u8], scratch: &mut [u8], out: &mut [u8], reader: Reader) {
     let stepped = reader.next(file);
     let answer = stepped.answer;
     say_offset(answer);
-    say_answer(file, scratch, out, answer);
+    say_answer(STDOUT_FILENO, file, scratch, out, answer);
     let after = stepped.reader;
     say_state(after);
 }
@@ -231,13 +204,18 @@ fn say_length(out: &mut [u8], length: TextLength) {
             io::write_all(STDOUT_FILENO, b"length ");
             say_number(n, b"\n");
         }
-        TextLength::Refused(refusal, place) => say_refusal(out, number_of(refusal) as u64, place),
+        TextLength::Refused(refusal, place) => say_refusal(
+            STDOUT_FILENO,
+            out,
+            number_of(refusal) as u64,
+            place,
+        ),
     }
 }
 
 fn say_bytes(out: &mut [u8], bytes: &[u8]) {
     let put = line::put::put_event(out, 0, Event::Data, bytes);
-    say::say_put(out, put);
+    say::say_put(STDOUT_FILENO, out, put);
 }
 
 fn blank(scratch: &mut [u8]) {

@@ -1,4 +1,3 @@
 // What the programs that replay the reader's answers share: lines on standard input, each answered.
 pub mod answer;
 pub mod forged;
-pub mod lines;

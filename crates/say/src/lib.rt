@@ -1,8 +1,6 @@
-// The reader's answers as lines on standard output, and the listing of a whole file.
+// The reader's answers as lines, written to a descriptor, and the listing of a whole file.
 pub mod list;
 
-use event::Event;
-use libc::STDOUT_FILENO;
 use line::put::Fixed;
 use line::put::Put;
 use line::put::put_event;
@@ -14,42 +12,42 @@ use reader::answer::number_of;
 use reader::request::text_length;
 use reader::request::text_part;
 
-pub fn say_answer(file: &[u8], scratch: &mut [u8], out: &mut [u8], answer: Answer) {
+pub fn say_answer(to: i32, file: &[u8], scratch: &mut [u8], out: &mut [u8], answer: Answer) {
     match answer {
-        Answer::Handed(handed) => say_event(file, scratch, out, handed),
-        Answer::Ended => say_fixed(out, Fixed::End),
-        Answer::Refused(refusal, place) => say_refusal(out, number_of(refusal) as u64, place),
+        Answer::Handed(handed) => say_event(to, file, scratch, out, handed),
+        Answer::Ended => say_fixed(to, out, Fixed::End),
+        Answer::Refused(refusal, place) => say_refusal(to, out, number_of(refusal) as u64, place),
     }
 }
 
 // An event's bytes are asked for first. The part is empty where there are none, and where the request is refused.
-pub fn say_event(file: &[u8], scratch: &mut [u8], out: &mut [u8], handed: Record) {
+pub fn say_event(to: i32, file: &[u8], scratch: &mut [u8], out: &mut [u8], handed: Record) {
     text_length(file, scratch, handed);
     let event = handed.event;
     let put = put_event(out, 0, event, text_part(file, scratch, handed));
-    say_put(out, put);
+    say_put(to, out, put);
 }
 
-pub fn say_fixed(out: &mut [u8], fixed: Fixed) {
+pub fn say_fixed(to: i32, out: &mut [u8], fixed: Fixed) {
     let put = put_fixed(out, 0, fixed);
-    say_put(out, put);
+    say_put(to, out, put);
 }
 
-pub fn say_refusal(out: &mut [u8], number: u64, place: u64) {
+pub fn say_refusal(to: i32, out: &mut [u8], number: u64, place: u64) {
     let put = put_refusal(out, 0, number, place);
-    say_put(out, put);
+    say_put(to, out, put);
 }
 
 // The line at the start of the memory.
-pub fn say_put(out: &[u8], put: Put) {
+pub fn say_put(to: i32, out: &[u8], put: Put) {
     match put {
         Put::End(end) => {
             if end <= out.len() {
-                io::write_all(STDOUT_FILENO, &out[..end]);
+                io::write_all(to, &out[..end]);
             }
         }
         Put::NoRoom => {
-            io::write_all(STDOUT_FILENO, b"no room\n");
+            io::write_all(to, b"no room\n");
         }
     }
 }

@@ -14,14 +14,30 @@ use reader::state::Reader;
 // After so many events the listing stops.
 const EVENTS: u32 = 65536;
 
-// Input that is longer than the buffer.
-pub fn too_long(line: &mut [u8]) {
-    say_fixed(line, Fixed::Events);
-    say_refusal(line, 1, 0);
+// The listing of what a descriptor hands out, written to another. Input that is longer than the memory for it is refused with 1.
+pub fn list_input(from: i32, to: i32, input: &mut [u8], scratch: &mut [u8], line: &mut [u8]) {
+    let n = io::read_full(from, input);
+    if has_more(from) {
+        too_long(to, line);
+        return;
+    }
+    list(to, &input[..n], scratch, line);
 }
 
-pub fn list(file: &[u8], scratch: &mut [u8], line: &mut [u8]) {
-    say_fixed(line, Fixed::Events);
+// Whether the input goes on behind what was read.
+fn has_more(from: i32) -> bool {
+    let mut next = [0u8; 1];
+    let got = libc::read(from, &mut next);
+    io::count(got, &next) == 1
+}
+
+fn too_long(to: i32, line: &mut [u8]) {
+    say_fixed(to, line, Fixed::Events);
+    say_refusal(to, line, 1, 0);
+}
+
+fn list(to: i32, file: &[u8], scratch: &mut [u8], line: &mut [u8]) {
+    say_fixed(to, line, Fixed::Events);
     let mut reader = Reader::FRESH;
     let mut left: u32 = EVENTS;
     while 0 < left {
@@ -30,25 +46,25 @@ pub fn list(file: &[u8], scratch: &mut [u8], line: &mut [u8]) {
         let after = stepped.reader;
         reader = after;
         let Answer::Handed(handed) = answer else {
-            say_answer(file, scratch, line, answer);
+            say_answer(to, file, scratch, line, answer);
             return;
         };
-        if lacks_room(file, scratch, line, handed) {
+        if lacks_room(to, file, scratch, line, handed) {
             return;
         }
-        say_event(file, scratch, line, handed);
+        say_event(to, file, scratch, line, handed);
         left -= 1;
     }
-    say_fixed(line, Fixed::Stopped);
+    say_fixed(to, line, Fixed::Stopped);
 }
 
 // A text that the scratch has no room for ends the listing with refusal 16. Events that are no data or text ask for nothing.
-fn lacks_room(file: &[u8], scratch: &mut [u8], line: &mut [u8], handed: Record) -> bool {
+fn lacks_room(to: i32, file: &[u8], scratch: &mut [u8], line: &mut [u8], handed: Record) -> bool {
     let TextLength::Refused(refusal, place) = text_length(file, scratch, handed) else {
         return false;
     };
     if number_of(refusal) == 16 {
-        say_refusal(line, 16, place);
+        say_refusal(to, line, 16, place);
         return true;
     }
     false

@@ -1,5 +1,6 @@
--- What a test for room tells.
+-- What tests tell: one for room, and two for a number in between.
 use mathlib.Core.Bool.{Bool, true, false}
+use mathlib.Core.Logic.{_⊎_, inl, inr}
 use mathlib.Core.Path.{_≡_, refl, sym, _∙_}
 use Prim.Native.Nat.{ℕ, _+_, _-_, _≤_, _<_}
 use native.Mathlib.Omega.{arith}
@@ -24,3 +25,15 @@ room-left end at size h = go (ltb end (at + size)) refl
     go false e =
         let l : at + size ≤ end = ltb-false end (at + size) e in
         le-ltb (end - at) size (omega arith)
+
+-- a number from another on, and below the second one after it
+pub one-of-two : (k a : ℕ) → a ≤ k → k < a + 2 → (k ≡ a) ⊎ (k ≡ a + 1)
+one-of-two k a h l = go (ltb a k) refl
+  where
+    go : (b : Bool) → ltb a k ≡ b → (k ≡ a) ⊎ (k ≡ a + 1)
+    go true e =
+        let m : a < k = ltb-true a k e in
+        inr (omega arith)
+    go false e =
+        let m : k ≤ a = ltb-false a k e in
+        inl (omega arith)

@@ -1,4 +1,4 @@
--- An event appended to a tape of which the front is held.
+-- An event appended to a tape of which the front is held. docs/FORMAT.md, rule T6.
 use mathlib.Core.Bool.{Bool, cond}
 use mathlib.Core.List.{List}
 use mathlib.Core.Path.{_≡_}
@@ -17,7 +17,7 @@ pub data Said : Type 0 where
   held : ℕ → Said
   refused : ℕ → ℕ → Said
 
--- Document 01: "Appending text that isn't UTF-8: 20; else what doesn't fit: 27 NoRoomForTape."
+-- the numbers of table N
 unfoldable pub said : Appended → Said
 said (Held n) = held n
 said (BadText place) = refused 20 place
@@ -27,7 +27,7 @@ said (NoRoom place) = refused 27 place
 unfoldable pub fits : List ℕ → ℕ → List ℕ → Bool
 fits tape at s = leb (at + length s) (length tape)
 
--- "what doesn't fit: 27", at "the place where the event would begin"
+-- what doesn't fit is refused at the place where it would begin
 unfoldable pub putOf : List ℕ → ℕ → List ℕ → Said
 putOf tape at s = cond (fits tape at s) (held (at + length s)) (refused 27 at)
 
@@ -35,7 +35,7 @@ putOf tape at s = cond (fits tape at s) (held (at + length s)) (refused 27 at)
 unfoldable pub putTo : List ℕ → ℕ → List ℕ → List ℕ
 putTo tape at s = cond (fits tape at s) (sets tape at s) tape
 
--- "Appending text that isn't UTF-8: 20; else .."
+-- text that isn't UTF-8 is refused first
 unfoldable pub appendOf : List ℕ → ℕ → Meaning → Said
 appendOf tape at m = cond (allowed m) (putOf tape at (bytesFor m)) (refused 20 at)
 

@@ -1,4 +1,4 @@
--- An event's bytes on the tape. Document 01, event tape; the kinds are quoted at each.
+-- An event's bytes on the tape. docs/FORMAT.md, rule T2.
 use mathlib.Core.Bool.{Bool, true, false}
 use mathlib.Core.List.{List, [], _∷_, _++_}
 use mathlib.Core.Option.{none, some}
@@ -12,21 +12,15 @@ use Rattle.tape.specs.Seven.{seven}
 use Rattle.unicode.specs.Unicode.{isUtf8}
 
 unfoldable pub bytesFor : Meaning → List ℕ
--- "01 false; 02 true"
 bytesFor (boolean false) = 0x01 ∷ []
 bytesFor (boolean true) = 0x02 ∷ []
--- "03 integer at or above zero; 04 negative integer n as -1 - n"
 bytesFor (integer (pos n)) = 0x03 ∷ seven n
 bytesFor (integer (negsuc k)) = 0x04 ∷ seven k
--- "05 real and 06 date, 8 bytes big-endian"
 bytesFor (real b) = 0x05 ∷ bytesOf 8 b
 bytesFor (date b) = 0x06 ∷ bytesOf 8 b
--- "07 UID"
 bytesFor (uid n) = 0x07 ∷ seven n
--- "08 data and 09 UTF-8 text, length then bytes"
 bytesFor (bytes s) = 0x08 ∷ (seven (length s) ++ s)
 bytesFor (text s) = 0x09 ∷ (seven (length s) ++ s)
--- "0A array, 0B array with length; 0C dictionary, 0D dictionary with length; 0E end"
 bytesFor (array none) = 0x0A ∷ []
 bytesFor (array (some n)) = 0x0B ∷ seven n
 bytesFor (dictionary none) = 0x0C ∷ []

@@ -98,7 +98,7 @@ pub not-events :
 unfolding readAt readingOf itemAt ofKind plain bytesAt numbered negative dataIn textIn numberAt numberFrom onto eightAt isUtf8 wellFormed rowOf table within
 not-events = refl
 
--- document 01's P10 as a tape, and a tape that is bad behind its first event
+-- P10 of docs/FORMAT.md as a tape, and a tape that is bad behind its first event
 pub walked :
     map eventsOf
     ((0x0B ∷ 0x03 ∷ 0x03 ∷ 0x01 ∷ 0x09 ∷ 0x01 ∷ 0x61 ∷ 0x03 ∷ 0x01 ∷ 0x0E ∷ []) ∷ (0x0A ∷ 0x0F ∷ []) ∷ []) ≡

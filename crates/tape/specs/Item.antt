@@ -1,7 +1,5 @@
--- The event that begins at a place of the tape. Document 01, event tape: "Kinds: 01 false; 02 true; 03 integer at or above zero; 04
--- negative integer n as -1 - n, at most 2^63 - 1; 05 real and 06 date, 8 bytes big-endian; 07 UID; 08 data and 09 UTF-8 text, length
--- then bytes; 0A array, 0B array with length; 0C dictionary, 0D dictionary with length; 0E end." Where the bytes are no such event,
--- whole and in this form, they are bad.
+-- The event that begins at a place of the tape. docs/FORMAT.md, rules T2 and T3. Where the bytes are no such event, whole and in this form,
+-- they are bad.
 use mathlib.Core.Bool.{true, false, cond}
 use mathlib.Core.List.{List}
 use Prim.Native.Nat.{ℕ, _+_, _^_}
@@ -26,12 +24,12 @@ use Rattle.unicode.specs.Unicode.{isUtf8}
 unfoldable pub plain : Event → ℕ → Step
 plain e next = ItemOf (record { event = e; start = next; length = 0; next = next })
 
--- an event of a number: "integer at or above zero", "real", "date", "UID", "array with length", "dictionary with length"
+-- an event of a number: an integer from 0 on, a real, a date, a UID, the start of a container with its length (T2)
 unfoldable pub numbered : (ℕ → Event) → Value → Step
 numbered f (Of n next) = plain (f n) next
 numbered f NoValue = Bad
 
--- "negative integer n as -1 - n, at most 2^63 - 1"
+-- a negative integer, not below -2^63 (T2, T3)
 unfoldable pub negative : Value → Step
 negative (Of k next) = cond (ltb k (2 ^ 63)) (plain (Integer (Signed (negsuc k))) next) Bad
 negative NoValue = Bad
@@ -40,12 +38,12 @@ negative NoValue = Bad
 unfoldable pub bytesAt : Event → ℕ → ℕ → Step
 bytesAt e at n = ItemOf (record { event = e; start = at; length = n; next = at + n })
 
--- "length then bytes"
+-- a length, then as many bytes (T2)
 unfoldable pub dataIn : List ℕ → Value → Step
 dataIn tape (Of n at) = cond (leb (at + n) (length tape)) (bytesAt Data at n) Bad
 dataIn tape NoValue = Bad
 
--- "UTF-8 text, length then bytes"
+-- the same, and they are UTF-8 (T2, T3)
 unfoldable pub textIn : List ℕ → Value → Step
 textIn tape (Of n at) =
     cond (leb (at + n) (length tape))

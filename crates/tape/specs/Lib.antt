@@ -2,6 +2,8 @@ pub mod Append
 pub mod AppendLaws
 pub mod Code
 pub mod CodeLaws
+pub mod End
+pub mod EndLaws
 pub mod Events
 pub mod EventsLaws
 pub mod Examples
@@ -14,6 +16,7 @@ pub mod PartLaws
 pub mod SameLaws
 pub mod Seven
 pub mod SevenLaws
+pub mod StandsLaws
 pub mod Value
 pub mod ValueLaws
 pub mod ValueLoop

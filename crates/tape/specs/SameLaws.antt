@@ -40,7 +40,7 @@ module _ (tape : List ℕ) (at : ℕ) (m : Meaning) (next : ℕ) (good : Bytes t
       let w = reads-written tape at m next good e .stands in
       rw (w .split) (take-at (bytesFor m) (drop next tape) (next - at) (omega (arith, w .ends)))
 
--- Document 01: "Scalars are equal when kind and value agree; reals and dates by bits." They are, exactly when their bytes on the tape are
+-- two scalars are of one kind and value exactly when their bytes on the tape are the same (docs/FORMAT.md, T4)
 module _ (s : List ℕ) (a : ℕ) (m : Meaning) (b : ℕ) (good : Bytes s) (e : readAt s a ≡ event m b) (t : List ℕ) (c : ℕ) (n : Meaning) (d : ℕ) (well : Bytes t) (f : readAt t c ≡ event n d) where
   pub bytes-agree : m ≡ n → part s a (b - a) ≡ part t c (d - c)
   bytes-agree h = item-bytes s a m b good e ∙ ap bytesFor h ∙ sym (item-bytes t c n d well f)

@@ -1,5 +1,4 @@
--- Numbers on the tape. Document 01, event tape: "Numbers are groups of seven bits, low group first, high bit set on all but the last,
--- shortest form, at most 2^64 - 1."
+-- Numbers on the tape. docs/FORMAT.md, rule T1.
 use mathlib.Core.Bool.{cond}
 use mathlib.Core.List.{List, [], _∷_}
 use Prim.Native.Nat.{ℕ, zero, suc, _+_, _/_, _%_}

@@ -73,3 +73,10 @@ unfolding seven
 seven-more n h b =
     let l : n / 128 < 128 ^ 9 = omega arith in
     groups-more 9 n h ∙ ap (λ (s : List ℕ). (n % 128 + 128) ∷ s) (sym (groups-enough 8 (n / 128) l))
+
+-- a number of 63 bits has five groups at least
+pub seven-long : (n : ℕ) → 2 ^ 62 ≤ n → n < 2 ^ 64 → 5 ≤ length (seven n)
+seven-long n h g =
+    let m = n / 128 / 128 / 128 in
+    rw (seven-more n (omega arith) g, seven-more (n / 128) (omega arith) (omega arith), seven-more (n / 128 / 128) (omega arith) (omega arith), seven-more m (omega arith) (omega arith))
+    (omega (arith, seven-some (m / 128)))

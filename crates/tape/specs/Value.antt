@@ -1,5 +1,4 @@
--- Numbers read from the tape. Document 01, event tape: "Numbers are groups of seven bits, low group first, high bit set on all but the
--- last, shortest form, at most 2^64 - 1"; "8 bytes big-endian".
+-- Numbers read from the tape. docs/FORMAT.md, rules T1 and T2.
 use mathlib.Core.Bool.{cond}
 use mathlib.Core.List.{List, [], _∷_}
 use Prim.Native.Nat.{ℕ, _+_, _-_, _*_, _^_}
@@ -13,8 +12,8 @@ use Rattle.tape.specs.declared.value.Value.the-variants.{Of, NoValue}
 abbrev pub part : List ℕ → ℕ → ℕ → List ℕ
 part tape at n = take n (drop at tape)
 
--- a low group in front of the number n of the groups after it. "Shortest form": groups of 0 would be left out. "At most 2^64 - 1": from
--- 2^57 on the whole is above it
+-- a low group in front of the number n of the groups after it. Groups of 0 would be left out in the shortest form; from 2^57 on the whole is
+-- above 2^64 - 1 (T1)
 unfoldable pub onto : ℕ → Value → Value
 onto b (Of n next) = cond (eqb n 0) NoValue (cond (ltb n (2 ^ 57)) (Of (n * 128 + b) next) NoValue)
 onto b NoValue = NoValue

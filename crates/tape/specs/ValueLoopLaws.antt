@@ -2,8 +2,8 @@
 use mathlib.Core.Bool.{Bool, true, false, cond, _&&_}
 use mathlib.Core.List.{List, _∷_}
 use mathlib.Core.Path.{_≡_, refl, ap, _∙_}
-use Prim.Native.Nat.{ℕ, suc, _+_, _-_, _*_, _/_, _^_, _≤_, _<_}
-use native.Mathlib.Nat.{div-lt-iff-lt-mul, le-div-iff-mul-le, pow-suc, mul-assoc, mul-comm, add-mul, mul-le-mul, mul-le-mul-right, pow-le-pow-right}
+use Prim.Native.Nat.{ℕ, suc, _+_, _-_, _*_, _^_, _≤_, _<_}
+use native.Mathlib.Nat.{pow-suc, mul-assoc, mul-comm, add-mul, mul-le-mul, mul-le-mul-right, pow-le-pow-right}
 use native.Mathlib.Numerals.{add-one}
 use native.Mathlib.Omega.{arith}
 use borrow.Author.Tests.{lt-ltb, le-ltb, ne-eqb, ltb-true, ltb-false, eqb-true, eqb-false}
@@ -64,17 +64,6 @@ module _ (value unit : ℕ) (u : Units value unit) where
               let h : 9 ≤ k = ltb-false k 9 t in
               let q : k ≡ 9 = omega arith in
               absurd (n (e ∙ ap (λ (j : ℕ). 128 ^ j) q))
-
-  -- the last group: it is in place if no bit of it is lost
-  pub last-fits : (b : ℕ) → b < 128 → b * unit < 2 ^ 64 → b * unit + value < 2 ^ 64
-  last-fits b h f = go (eqb unit (2 ^ 63)) refl
-    where
-      go : (t : Bool) → eqb unit (2 ^ 63) ≡ t → b * unit + value < 2 ^ 64
-      go true e =
-          let q : unit ≡ 2 ^ 63 = eqb-true unit (2 ^ 63) e in
-          let f′ : b * 2 ^ 63 < 2 ^ 64 = rw q at f in
-          rw q (omega (arith, u .low))
-      go false e = omega (arith, unit-small (eqb-false unit (2 ^ 63) e), more-lt b h)
 
   -- a group with others after it goes to those before it
   pub above-onto : (b : ℕ) (r : Value) → b < 128 → above value unit (onto b r) ≡ above (value + b * unit) (unit * 128) r
@@ -152,18 +141,25 @@ module _ (value unit : ℕ) (u : Units value unit) where
   unfolding above
   last-long next q = rw (lt-ltb 1 unit (omega (arith, unit-some)))
 
-  pub last-large : (b next : ℕ) → (b ≡ 0 → ⊥) → 0xffff_ffff_ffff_ffff / unit < b → above value unit (Of b next) ≡ NoValue
+  -- a tenth group above 1 is too large
+  pub last-large : (b next : ℕ) → unit ≡ 2 ^ 63 → 1 < b → above value unit (Of b next) ≡ NoValue
   unfolding above
-  last-large b next z l =
-      let g : 0xffff_ffff_ffff_ffff < b * unit = div-lt-iff-lt-mul unit-some .0 l in
-      rw (ne-eqb b 0 z, le-ltb (b * unit + value) (2 ^ 64) (omega arith))
+  last-large b next q l =
+      let g : b * unit + value ≡ b * 2 ^ 63 + value = rw q in
+      rw (ne-eqb b 0 (omega arith), le-ltb (b * unit + value) (2 ^ 64) (omega arith))
 
-  pub last-room : (b : ℕ) → b < 128 → b ≤ 0xffff_ffff_ffff_ffff / unit → b * unit + value < 2 ^ 64
-  last-room b h l =
-      let g : b * unit ≤ 0xffff_ffff_ffff_ffff = le-div-iff-mul-le unit-some .0 l in
-      last-fits b h (omega arith)
+  -- any other is in place
+  pub last-room : (b : ℕ) → b < 128 → (unit ≡ 2 ^ 63 → b ≤ 1) → b * unit + value < 2 ^ 64
+  last-room b h l = go (eqb unit (2 ^ 63)) refl
+    where
+      go : (t : Bool) → eqb unit (2 ^ 63) ≡ t → b * unit + value < 2 ^ 64
+      go true e =
+          let q : unit ≡ 2 ^ 63 = eqb-true unit (2 ^ 63) e in
+          let one : b ≤ 1 = l q in
+          omega (arith, mul-le-mul-right unit one, u .low)
+      go false e = omega (arith, unit-small (eqb-false unit (2 ^ 63) e), more-lt b h)
 
-  pub last-good : (b next : ℕ) → (b ≡ 0 → ⊥) → b < 128 → b ≤ 0xffff_ffff_ffff_ffff / unit → above value unit (Of b next) ≡ Of (b * unit + value) next
+  pub last-good : (b next : ℕ) → (b ≡ 0 → ⊥) → b < 128 → (unit ≡ 2 ^ 63 → b ≤ 1) → above value unit (Of b next) ≡ Of (b * unit + value) next
   unfolding above
   last-good b next z h l = rw (ne-eqb b 0 z, lt-ltb (b * unit + value) (2 ^ 64) (last-room b h l))
 

@@ -1,7 +1,8 @@
 // The event tape: events as bytes, appended at the end and stepped over from the front.
 pub mod append;
+pub mod end;
 pub mod item;
-mod room;
+pub mod room;
 mod seven;
 pub mod step;
-mod value;
+pub mod value;

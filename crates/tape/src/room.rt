@@ -4,7 +4,7 @@ ghost use Prim.Native.Nat.{_+_};
 ghost use lib.Dec.{ltb};
 
 // Whether so many bytes from a place on pass the end. Their sum may pass 2^64.
-pub(crate) fn lacks_room(end: usize, at: usize, size: usize) -> bool
+pub fn lacks_room(end: usize, at: usize, size: usize) -> bool
     ensures { λ r. ⌜ r ≡ ltb end (at + size) ⌝ }
 {
     if end < at {

@@ -8,13 +8,13 @@ ghost use Rattle.tape.specs.ValueLoop.{Units, above};
 ghost use Rattle.tape.specs.declared.value.Value.the-variants.{Of};
 
 // A number and the place after it, or that none stands there in the form that the tape has.
-pub(crate) enum Value {
+pub enum Value {
     Of(u64, usize),
     NoValue,
 }
 
 // The number at a place, in groups of seven bits, the low group first. `unit` is what the next group counts in; in the tenth group it is 2^63.
-pub(crate) fn number_at(tape: &[u8], at: usize) -> Value
+pub fn number_at(tape: &[u8], at: usize) -> Value
     ensures { λ r. ⌜ r ≡ numberAt (now (tape .entry)) at ⌝ }
 {
     let mut value: u64 = 0;
@@ -35,7 +35,8 @@ pub(crate) fn number_at(tape: &[u8], at: usize) -> Value
     Value::NoValue
 }
 
-// The whole number, once its last group is read: a group of 0 is the shortest form of 0 alone, and the whole is at most 2^64 - 1.
+// The whole number, once its last group is read: a group of 0 is the shortest form of 0 alone, and the whole is at most 2^64 - 1, so that a
+// tenth group is 1.
 fn last_group(value: u64, unit: u64, group: u64, next: usize) -> Value
     requires { ⌜ Units value unit × (group < 0x80) ⌝ }
     ensures { λ r. ⌜ r ≡ above value unit (Of group next) ⌝ }
@@ -46,8 +47,10 @@ fn last_group(value: u64, unit: u64, group: u64, next: usize) -> Value
         }
         return Value::NoValue;
     }
-    if 0xffff_ffff_ffff_ffff / unit < group {
-        return Value::NoValue;
+    if unit == 0x8000_0000_0000_0000 {
+        if 1 < group {
+            return Value::NoValue;
+        }
     }
     Value::Of(group * unit + value, next)
 }

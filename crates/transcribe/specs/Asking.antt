@@ -17,6 +17,7 @@ use Rattle.number.specs.declared.width.Width.the-variants.{One}
 use Rattle.unicode.specs.Bounds.{Below}
 use Rattle.unicode.specs.ChangeLaws.{toUtf8-good}
 use Rattle.unicode.specs.Unicode.{isUtf16, toUtf8}
+use Rattle.event.specs.Format.{magic}
 use Rattle.event.specs.Meaning.{meaningOf}
 use Rattle.event.specs.declared.Event.{Event}
 use Rattle.event.specs.declared.Event.the-variants.{StartArray, StartDictionary, EndCollection, Boolean, Data, Date, Integer, Real, Nan, String, Uid}
@@ -30,7 +31,7 @@ use Rattle.reader.specs.Next.{tooLong, begin, laidOut, withRefs, goOn, nextOf}
 use Rattle.reader.specs.FoundLaws.{Found-right, object-right, plain-denied}
 use Rattle.reader.specs.Request.{Asked, inFile, wide, denied, dataAsked, textAsked, eventAsked, hasBytes}
 use Rattle.reader.specs.State.{maxOpen, maxLength, openOf, memberOf}
-use Rattle.reader.specs.Trailer.{Trailer, keeps, ends, lays, magic, begins, eightAt, tableOf, refSizeOf, sizesOf, trailerOf}
+use Rattle.reader.specs.Trailer.{Trailer, keeps, ends, lays, begins, eightAt, tableOf, refSizeOf, sizesOf, trailerOf}
 use Rattle.reader.specs.declared.layout.Due.{Due}
 use Rattle.reader.specs.declared.layout.Due.the-variants.{Wrong, Close, Member}
 use Rattle.reader.specs.declared.layout.Entry.{Entry}

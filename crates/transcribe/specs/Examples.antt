@@ -6,6 +6,7 @@ use lib.ListN.{replicate, take}
 use Rattle.number.specs.Be.{be, onto}
 use Rattle.number.specs.Width.{widthOf, bytesIn}
 use Rattle.unicode.specs.Unicode.{within, table, rowOf, wellFormed, isUtf8}
+use Rattle.event.specs.Format.{magic}
 use Rattle.event.specs.Meaning.{meaningOf, valueOf, givenOf}
 use Rattle.object.specs.Container.{containerAt, containerOf}
 use Rattle.object.specs.Content.{contentAt, extentAt, roomFor}
@@ -16,7 +17,7 @@ use Rattle.reader.specs.Machine.{startOf, enter, arrive, follow, stepOf}
 use Rattle.reader.specs.Next.{laidOut, begin, withRefs, goOn, nextOf}
 use Rattle.reader.specs.Request.{hasBytes, textAsked, eventAsked, askedOf, lengthSaid, scratchAfter, partSaid}
 use Rattle.reader.specs.State.{openOf, innermost, memberOf, advanced, passed, entered, nextIn, closed}
-use Rattle.reader.specs.Trailer.{magic, begins, eightAt, tableOf, refSizeOf, sizesOf, trailerOf}
+use Rattle.reader.specs.Trailer.{begins, eightAt, tableOf, refSizeOf, sizesOf, trailerOf}
 use Rattle.tape.specs.Append.{putOf, putTo, fits, appendOf, appendTo}
 use Rattle.tape.specs.Code.{bytesFor, allowed}
 use Rattle.tape.specs.Seven.{groups, seven}

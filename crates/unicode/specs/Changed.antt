@@ -1,4 +1,4 @@
--- What a change of text answers, and what it leaves in the lent memory. Document 01: a text is handed out as "the scratch's first bytes", and a refusal leaves lent memory unchanged.
+-- What a change of text answers, and what it leaves in the lent memory. docs/FORMAT.md, rule R30.
 use mathlib.Core.Bool.{Bool, cond}
 use mathlib.Core.List.{List, _++_}
 use Prim.Native.Nat.{ℕ}

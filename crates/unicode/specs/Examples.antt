@@ -12,7 +12,7 @@ pub record Example : Type 0 where
   pub bytes : List ℕ
   pub units : List ℕ
 
--- each scalar value by itself, document 01's P8, and three widths together
+-- each scalar value by itself, P8 of docs/FORMAT.md, and three widths together
 unfoldable pub examples : List Example
 examples =
     record { scalars = 0x41 ∷ []; bytes = 0x41 ∷ []; units = 0x0041 ∷ [] } ∷
@@ -27,7 +27,7 @@ examples =
     record { scalars = 0xE9 ∷ 0x10FFFF ∷ 0x41 ∷ []; bytes = 0xC3 ∷ 0xA9 ∷ 0xF4 ∷ 0x8F ∷ 0xBF ∷ 0xBF ∷ 0x41 ∷ []; units = 0x00E9 ∷ 0xDBFF ∷ 0xDFFF ∷ 0x0041 ∷ [] } ∷
     []
 
--- "Not UTF-8": longer than need be, surrogates, above 10FFFF, a byte that begins nothing, and sequences cut short
+-- not UTF-8: longer than need be, surrogates, above 10FFFF, a byte that begins nothing, and sequences cut short
 unfoldable pub notUtf8 : List (List ℕ)
 notUtf8 =
     (0xC0 ∷ 0x80 ∷ []) ∷
@@ -42,7 +42,7 @@ notUtf8 =
     (0xE1 ∷ 0x80 ∷ []) ∷
     []
 
--- not UTF-16: document 01's P7, a high surrogate last; one before another high one; a low one first; an odd byte
+-- not UTF-16: P7, a high surrogate last; one before another high one; a low one first; an odd byte
 unfoldable pub notUtf16 : List (List ℕ)
 notUtf16 =
     (0xD8 ∷ 0x00 ∷ []) ∷

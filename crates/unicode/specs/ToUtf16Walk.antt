@@ -1,28 +1,20 @@
 -- Units counted by bytes, and the text of UTF-8 one scalar value at a time.
-use mathlib.Core.Bool.{true, false, cond}
+use mathlib.Core.Bool.{Bool, true, false, cond}
 use mathlib.Core.Path.{_≡_, refl, sym, ap, _∙_}
 use mathlib.Core.List.{List, [], _∷_, _++_}
 use Prim.Native.Nat.{ℕ, _+_, _*_, _/_, _%_, _≤_, _<_}
 use native.Mathlib.Nat.{add-assoc, zero-add}
 use native.Mathlib.Decide.{decLt}
 use native.Mathlib.Omega.{arith}
-use lib.Dec.{ltb}
+use lib.Dec.{ltb, lit≤}
 use lib.ListN.{length, drop, length-append}
 use borrow.Author.Tests.{lt-ltb, le-ltb}
 use Rattle.unicode.specs.Tests.{cond-yes, cond-no}
 use Rattle.unicode.specs.Unicode.{isScalar, utf8Of, utf8, utf16Of, utf16, isUtf8, scalars8, unitBytes, toUtf16}
-use Rattle.unicode.specs.ToUtf16.{utf16UnitsOf}
+use Rattle.unicode.specs.ToUtf16.{utf16UnitsOf, unitsFrom, unitsIn}
 use Rattle.unicode.specs.declared.to_utf16.Units.the-variants.{Count, NotUtf8}
 use Rattle.unicode.specs.ScalarLaws.{scalar-cons, utf8-one, utf8-two, utf8-three, utf8-four, utf16-one, utf16-two}
 use Rattle.unicode.specs.Utf8Bits.{utf8-scalar, utf8-again, utf8-is, scalars-again}
-
--- how many units a byte adds: a first byte one, or two where three more follow it; a later byte none
-unfoldable pub unitsFrom : ℕ → ℕ
-unitsFrom b = cond (ltb b 0x80) 1 (cond (ltb b 0xC0) 0 (cond (ltb b 0xF0) 1 2))
-
-unfoldable pub unitsIn : List ℕ → ℕ
-unitsIn [] = 0
-unitsIn (b ∷ s) = unitsFrom b + unitsIn s
 
 -- the scalar value v begins at i, and the text goes on well formed at j
 pub record ScalarAt (s : List ℕ) (i v j : ℕ) : Type 0 where
@@ -49,6 +41,22 @@ from-first b h g = rw (le-ltb b 0x80 (omega arith), le-ltb b 0xC0 h, lt-ltb b 0x
 from-four : (b : ℕ) → 0xF0 ≤ b → unitsFrom b ≡ 2
 unfolding unitsFrom
 from-four b h = rw (le-ltb b 0x80 (omega arith), le-ltb b 0xC0 (omega arith), le-ltb b 0xF0 h)
+
+-- no byte adds more than two
+pub from-le : (b : ℕ) → unitsFrom b ≤ 2
+unfolding unitsFrom
+from-le b = go (ltb b 0x80) (ltb b 0xC0) (ltb b 0xF0)
+  where
+    go : (x y z : Bool) → cond x 1 (cond y 0 (cond z 1 2)) ≤ 2
+    go true y z = lit≤ tt
+    go false true z = lit≤ tt
+    go false false true = lit≤ tt
+    go false false false = lit≤ tt
+
+pub units-le : (s : List ℕ) → unitsIn s ≤ length s * 2
+unfolding unitsIn
+units-le [] = lit≤ tt
+units-le (b ∷ s) = omega (arith, from-le b, units-le s)
 
 -- a scalar value's bytes add as many units as it has, and no more than there are bytes
 units-of : (v : ℕ) → (unitsIn (utf8Of v) ≡ length (utf16Of v)) × (length (utf16Of v) ≤ length (utf8Of v))
@@ -100,16 +108,20 @@ unfolding unitBytes
 length-unitBytes [] = refl
 length-unitBytes (u ∷ us) = omega (arith, length-unitBytes us)
 
+pub length-utf16 : (s : List ℕ) → length (toUtf16 s) ≡ length (utf16 (scalars8 s)) * 2
+unfolding toUtf16
+length-utf16 s = length-unitBytes (utf16 (scalars8 s))
+
 -- What the measured number tells.
 
 module _ (s : List ℕ) where
   -- a number: this is UTF-8, and its text in UTF-16 has two bytes for each unit
   pub measured : (n : ℕ) → utf16UnitsOf s ≡ Count n → (isUtf8 s ≡ true) × (length (toUtf16 s) ≡ n * 2)
-  unfolding utf16UnitsOf toUtf16
+  unfolding utf16UnitsOf
   measured n h =
       let m = cond-yes (isUtf8 s) (Count (length (utf16 (scalars8 s)))) NotUtf8 (Count n) h (λ (e : NotUtf8 ≡ Count n). let z : _≡_ {A = ℕ} 0 1 = cc in absurd (omega arith)) in
       let k : length (utf16 (scalars8 s)) ≡ n = cc in
-      (m .0, length-unitBytes (utf16 (scalars8 s)) ∙ rw k)
+      (m .0, length-utf16 s ∙ rw k)
 
   -- none: this is no UTF-8
   pub not-measured : utf16UnitsOf s ≡ NotUtf8 → isUtf8 s ≡ false

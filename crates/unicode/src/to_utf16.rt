@@ -7,10 +7,10 @@ ghost use mathlib.Core.List.{[], _∷_};
 ghost use Prim.Native.Nat.{_+_, _*_, _/_, _%_, _≤_, _<_};
 ghost use lib.ListN.{length, getD, drop};
 ghost use lib.Seq.{sets};
-ghost use Rattle.unicode.specs.Unicode.{isUtf8, scalars8, utf16Of, utf16, unitBytes, toUtf16};
+ghost use Rattle.unicode.specs.Unicode.{isUtf8, utf16Of, unitBytes, toUtf16};
 ghost use Rattle.unicode.specs.Changed.{changedOf, changedTo};
-ghost use Rattle.unicode.specs.ToUtf16.{utf16UnitsOf};
-ghost use Rattle.unicode.specs.ToUtf16Walk.{unitsFrom, ScalarAt};
+ghost use Rattle.unicode.specs.ToUtf16.{utf16UnitsOf, unitsFrom, unitsIn};
+ghost use Rattle.unicode.specs.ToUtf16Walk.{ScalarAt};
 
 // How many units a text has in UTF-16.
 pub enum Units {
@@ -29,9 +29,23 @@ pub fn utf16_units(s: &[u8]) -> Units
     ensures { λ r. ⌜ r ≡ utf16UnitsOf (now (s .entry)) ⌝ }
 {
     if is_utf8(s) {
-        return Units::Count(count_units(s));
+        return Units::Count(units_in(s));
     }
     Units::NotUtf8
+}
+
+// How many units the bytes of a text add, each by itself: a first byte one or two, a later byte none. Of bytes that are no text it is a
+// sum that means nothing.
+pub fn units_in(s: &[u8]) -> usize
+    ensures { λ r. ⌜ r ≡ unitsIn (now (s .entry)) ⌝ }
+{
+    let mut count: usize = 0;
+    let mut i: usize = 0;
+    while i < s.len() {
+        count += units_from(s[i]);
+        i += 1;
+    }
+    count
 }
 
 // The text in UTF-16 at the start of the lent memory, where it is a text and fits. It is measured first, so that a refusal changes nothing.
@@ -47,20 +61,6 @@ pub fn utf8_to_utf16(s: &[u8], out: &mut [u8]) -> Changed
     }
     write_utf16(s, out);
     Changed::Written(units * 2)
-}
-
-// Each byte tells by itself how many units it adds: a first byte one or two, a later byte none.
-fn count_units(s: &[u8]) -> usize
-    requires { ⌜ isUtf8 (now s) ≡ true ⌝ }
-    ensures { λ r. ⌜ r ≡ length (utf16 (scalars8 (now (s .entry)))) ⌝ }
-{
-    let mut count: usize = 0;
-    let mut i: usize = 0;
-    while i < s.len() {
-        count += units_from(s[i]);
-        i += 1;
-    }
-    count
 }
 
 fn units_from(b: u8) -> usize

@@ -4,9 +4,6 @@ use lib.Seq.{length-take-le}
 use borrow.Author.Needs.{needs}
 use Rattle.say.proofs.say_put.Statement.{statement}
 use Rattle.say.proofs.say_put.Tie as tie
-use Rattle.say.proofs.say_put.Reads as reads
-use Rattle.say.proofs.say_put.Lts as lts
-use Rattle.io.proofs.write_all.Reads as write-all-reads
 
 enum-known-put : tie.Need-enum-known-put
 enum-known-put c = search needs

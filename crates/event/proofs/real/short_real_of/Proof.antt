@@ -1,4 +1,4 @@
--- `short_real_of` widens a number exactly and a NaN by document 01's rule.
+-- `short_real_of` widens a number exactly and a NaN by the rule for it.
 use mathlib.Core.Path.{sym, _∙_}
 use Rattle.event.specs.Real.{shortRealOf}
 use Rattle.event.specs.RealLaws.{failed}

@@ -1,6 +1,6 @@
 -- `units_from` tests as the definition does.
 use borrow.Author.Tests.{lt-ltb, le-ltb}
-use Rattle.unicode.specs.ToUtf16Walk.{unitsFrom}
+use Rattle.unicode.specs.ToUtf16.{unitsFrom}
 use Rattle.unicode.proofs.to_utf16.units_from.Statement.{statement}
 use Rattle.unicode.proofs.to_utf16.units_from.Tie as tie
 

@@ -4,8 +4,8 @@ use Prim.Native.Nat.{_-_}
 use native.Mathlib.Omega.{arith}
 use borrow.Author.Needs.{needs}
 use lib.ListN.{length, length-set}
-use Rattle.replay.proofs.lines.keep.Statement.{statement}
-use Rattle.replay.proofs.lines.keep.Tie as tie
+use Rattle.hexlines.proofs.stream.keep.Statement.{statement}
+use Rattle.hexlines.proofs.stream.keep.Tie as tie
 
 abbrev Inv-loop : tie.InvT-loop
 Inv-loop buffer₀ from to count i₀ buffer i = length buffer ≡ length buffer₀

@@ -1,13 +1,14 @@
--- `count_units` adds up what each byte tells: what is counted and what is left make the whole.
+-- `units_in` adds up what each byte tells: what is counted and what is left make the whole. No slice is as long as 2^63, so twice its length fits.
 use mathlib.Core.Path.{_≡_}
 use Prim.Native.Nat.{_+_, _-_, _≤_}
 use native.Mathlib.Omega.{arith}
 use borrow.Author.Needs.{needs}
 use lib.ListN.{length, getD, drop, drop-of-length-le}
-use Rattle.unicode.specs.ToUtf16Walk.{unitsFrom, unitsIn, counted}
+use Rattle.unicode.specs.ToUtf16.{unitsFrom, unitsIn}
+use Rattle.unicode.specs.ToUtf16Walk.{units-le}
 use Rattle.unicode.proofs.Left.{left-at}
-use Rattle.unicode.proofs.to_utf16.count_units.Statement.{statement}
-use Rattle.unicode.proofs.to_utf16.count_units.Tie as tie
+use Rattle.unicode.proofs.to_utf16.units_in.Statement.{statement}
+use Rattle.unicode.proofs.to_utf16.units_in.Tie as tie
 
 abbrev Inv-loop : tie.InvT-loop
 Inv-loop s count₀ i₀ count i = (i ≤ length s) × (count + unitsIn (drop i s) ≡ unitsIn s)
@@ -36,7 +37,7 @@ at-byte c = rw (left-at (c .before .before .before .before .before .args .s .now
 add-count : tie.Need-add-count Inv-loop μ-loop
 add-count c =
     let s = c .before .before .before .before .before .args .s .now in
-    omega (arith, c .units-from .ensures, at-byte c, counted s (c .before .before .before .before .before .pre) .1)
+    omega (arith, c .units-from .ensures, at-byte c, units-le s, c .before .before .before .before .before .good .0 .1)
 
 add-i : tie.Need-add-i Inv-loop μ-loop
 add-i c = omega arith
@@ -52,10 +53,10 @@ unfolding unitsIn
 returns c =
     let s = c .before .before .before .args .s .now in
     let e : c .before .loop .count + 0 ≡ unitsIn s = rw (drop-of-length-le s (c .loop-test .left)) at (c .before .loop .inv .1) in
-    omega (arith, counted s (c .before .before .before .pre) .0)
+    omega arith
 
-pub count-units-spec : {M : Type 1} → statement M
-count-units-spec =
+pub units-in-spec : {M : Type 1} → statement M
+units-in-spec =
     tie.close
     (tie.spec
     Inv-loop

@@ -1,11 +1,9 @@
 -- `number` goes through the slice.
-use mathlib.Core.Path.{_≡_}
 use Prim.Native.Nat.{_-_, _≤_}
-use native.Mathlib.Omega.{arith}
 use borrow.Author.Needs.{needs}
 use lib.ListN.{length}
-use Rattle.replay.proofs.forged.number.Statement.{statement}
-use Rattle.replay.proofs.forged.number.Tie as tie
+use Rattle.hexlines.proofs.line.number.Statement.{statement}
+use Rattle.hexlines.proofs.line.number.Tie as tie
 
 abbrev Inv-loop : tie.InvT-loop
 Inv-loop s from n₀ i₀ n i = 0 ≤ i
