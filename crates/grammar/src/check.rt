@@ -1,0 +1,72 @@
+// A tape is one whole root, or why not.
+use crate::answer::Checked;
+use crate::answer::EventKind;
+use crate::answer::Refusal;
+use crate::turn::Due;
+use crate::turn::Turn;
+use crate::turn::after;
+use crate::turn::is_nothing;
+use crate::turn::turn_at;
+use event::limits::MAX_LENGTH;
+use event::limits::MAX_OPEN;
+ghost use mathlib.Core.Path.{_≡_};
+ghost use Rattle.grammar.specs.Check.{checkOf};
+ghost use Rattle.grammar.specs.Said.{checkedSaid};
+
+// `events` events stand before `at`, and none was refused; `due` is due behind them. The first `depth` of `around` are what is due once
+// each open container is closed, the outermost first.
+pub fn check_tape(tape: &[u8]) -> Checked
+    ensures { λ r. ⌜ checkedSaid r ≡ checkOf (now (tape .entry)) ⌝ }
+{
+    if MAX_LENGTH < tape.len() {
+        return Checked::Refused(Refusal::TooLong, 0);
+    }
+    let mut around = [Due::Nothing; MAX_OPEN];
+    let mut depth: usize = 0;
+    let mut due = Due::Root;
+    let mut events: usize = 0;
+    let mut at: usize = 0;
+    while at < tape.len() {
+        let place = at as u64;
+        let turned = turn_at(tape, at, due);
+        let turn = turned.turn;
+        events += 1;
+        at = turned.next;
+        match turn {
+            Turn::Stop(refusal) => {
+                return Checked::Refused(refusal, place);
+            }
+            Turn::Pass(next) => {
+                due = next;
+                continue;
+            }
+            Turn::Open(first) => {
+                if MAX_OPEN <= depth {
+                    return Checked::Refused(Refusal::TooDeep, place);
+                }
+                around[depth] = after(due);
+                depth += 1;
+                due = first;
+                continue;
+            }
+            Turn::Close => {
+                if depth == 0 {
+                    return Checked::Refused(
+                        Refusal::UnexpectedEventType(
+                            EventKind::ValueOrStartCollection,
+                            EventKind::EndCollection,
+                        ),
+                        place,
+                    );
+                }
+                depth -= 1;
+                due = around[depth];
+                continue;
+            }
+        }
+    }
+    if is_nothing(due) {
+        return Checked::Whole(events);
+    }
+    Checked::Refused(Refusal::IncompleteRoot, tape.len() as u64)
+}
