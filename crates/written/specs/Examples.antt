@@ -1,0 +1,64 @@
+-- Whole files, computed: P9, P10 and P11 of document 01, files that a wrong order of numbers or of bytes would change, and values that must not be
+-- merged. compare/target/oracle, the Rust, writes the same.
+use mathlib.Core.Bool.{true}
+use mathlib.Core.List.{List, [], _∷_, _++_}
+use mathlib.Core.Option.{none, some}
+use mathlib.Core.Path.{_≡_, refl}
+use Prim.Native.Nat.{ℕ}
+use lib.Ieee.{nanBits, isNan, ofBits, toBits}
+use lib.IntN.{pos, negsuc}
+use Rattle.event.specs.Format.{magic}
+use Rattle.event.specs.Meaning.{array, dictionary, close, boolean, bytes, integer, real, text, uid, meaningOf, valueOf, givenOf}
+use Rattle.event.specs.Real.{realOf, floatBits}
+use Rattle.number.specs.Be.{be, onto as digit, bytesOf}
+use Rattle.number.specs.Signed.{bitsOf}
+use Rattle.number.specs.Size.{needed, rounded, sizeOf}
+use Rattle.tape.specs.Code.{bytesFor}
+use Rattle.tape.specs.Item.{plain, bytesAt as partAt, numbered, negative, dataIn, textIn, ofKind, itemAt, meaningIn as meaningAt, readingOf, readAt}
+use Rattle.tape.specs.Seven.{groups, seven}
+use Rattle.tape.specs.Value.{onto, numberFrom, numberAt, eightAt}
+use Rattle.unicode.specs.Unicode.{isAscii, isUtf8, wellFormed, rowOf, table as rows, within}
+use Rattle.written.specs.Encoding.{sizeMarker, numberBytes, integerBytes, nibbleOf, headBytes, textBytes, scalarBytes, numbersBytes, objectBytes, trailerBytes}
+use Rattle.written.specs.File.{flat, ahead, refSize, bytesAt, body, placeOf, tableAt, offsetSize, table, fileOf, fileFor}
+use Rattle.written.specs.Graph.{pieceOf, sameBytes, same, kids, evens, laid, names, order, number, meaningIn, meant, bodyOf, objectOf, spoken, emission}
+use Rattle.written.specs.Nub.{has, nub, nubOnto, indexOf}
+
+-- the magic, objects and offset table, then the trailer with sizes 1 and 1, the count, root 0 and the table's offset
+abbrev file : List ℕ → ℕ → ℕ → List ℕ
+file middle count offset =
+    (0x62 ∷ 0x70 ∷ 0x6C ∷ 0x69 ∷ 0x73 ∷ 0x74 ∷ 0x30 ∷ 0x30 ∷ []) ++
+    (middle ++ (0 ∷ 0 ∷ 0 ∷ 0 ∷ 0 ∷ 0 ∷ 1 ∷ 1 ∷ 0 ∷ 0 ∷ 0 ∷ 0 ∷ 0 ∷ 0 ∷ 0 ∷ count ∷ 0 ∷ 0 ∷ 0 ∷ 0 ∷ 0 ∷ 0 ∷ 0 ∷ 0 ∷ 0 ∷ 0 ∷ 0 ∷ 0 ∷ 0 ∷ 0 ∷ 0 ∷ offset ∷ []))
+
+pub examples :
+    -- P9: true
+    (fileFor (boolean true ∷ []) ≡
+    file (0x09 ∷ 0x08 ∷ []) 1 9) ×
+    -- P10: [1, "a", 1]; equal scalars are one object
+    (fileFor (array none ∷ integer (pos 1) ∷ text (0x61 ∷ []) ∷ integer (pos 1) ∷ close ∷ []) ≡
+    file (0xA3 ∷ 0x01 ∷ 0x02 ∷ 0x01 ∷ 0x10 ∷ 0x01 ∷ 0x51 ∷ 0x61 ∷ 0x08 ∷ 0x0C ∷ 0x0E ∷ []) 3 16) ×
+    -- P11: {"k": ["k", -1]}
+    (fileFor (dictionary none ∷ text (0x6B ∷ []) ∷ array none ∷ text (0x6B ∷ []) ∷ integer (negsuc 0) ∷ close ∷ close ∷ []) ≡
+    file (0xD1 ∷ 0x01 ∷ 0x02 ∷ 0x51 ∷ 0x6B ∷ 0xA2 ∷ 0x01 ∷ 0x03 ∷ 0x13 ∷ 0xFF ∷ 0xFF ∷ 0xFF ∷ 0xFF ∷ 0xFF ∷ 0xFF ∷ 0xFF ∷ 0xFF ∷ 0x08 ∷ 0x0B ∷ 0x0D ∷ 0x10 ∷ []) 4 25) ×
+    -- [[1], "a"]: "a" is numbered before 1, and stands behind it
+    (fileFor (array none ∷ array none ∷ integer (pos 1) ∷ close ∷ text (0x61 ∷ []) ∷ close ∷ []) ≡
+    file (0xA2 ∷ 0x01 ∷ 0x02 ∷ 0xA1 ∷ 0x03 ∷ 0x10 ∷ 0x01 ∷ 0x51 ∷ 0x61 ∷ 0x08 ∷ 0x0B ∷ 0x0F ∷ 0x0D ∷ []) 4 17) ×
+    -- {"a": 1, "k": "a"}: keys are numbered and stand before values, and a value may be a key's object
+    (fileFor (dictionary none ∷ text (0x61 ∷ []) ∷ integer (pos 1) ∷ text (0x6B ∷ []) ∷ text (0x61 ∷ []) ∷ close ∷ []) ≡
+    file (0xD2 ∷ 0x01 ∷ 0x02 ∷ 0x03 ∷ 0x01 ∷ 0x51 ∷ 0x61 ∷ 0x51 ∷ 0x6B ∷ 0x10 ∷ 0x01 ∷ 0x08 ∷ 0x0D ∷ 0x0F ∷ 0x11 ∷ []) 4 19) ×
+    -- []
+    (fileFor (array none ∷ close ∷ []) ≡
+    file (0xA0 ∷ 0x08 ∷ []) 1 9) ×
+    -- {}, with a given length that is not looked at
+    (fileFor (dictionary (some 7) ∷ close ∷ []) ≡
+    file (0xD0 ∷ 0x08 ∷ []) 1 9) ×
+    -- [1, UID 1, 1.0]: three objects
+    (fileFor (array none ∷ integer (pos 1) ∷ uid 1 ∷ real 0x3FF0_0000_0000_0000 ∷ close ∷ []) ≡
+    file (0xA3 ∷ 0x01 ∷ 0x02 ∷ 0x03 ∷ 0x10 ∷ 0x01 ∷ 0x80 ∷ 0x01 ∷ 0x23 ∷ 0x3F ∷ 0xF0 ∷ 0x00 ∷ 0x00 ∷ 0x00 ∷ 0x00 ∷ 0x00 ∷ 0x00 ∷ 0x08 ∷ 0x0C ∷ 0x0E ∷ 0x10 ∷ []) 4 25) ×
+    -- [0.0, -0.0]: two objects
+    (fileFor (array none ∷ real 0 ∷ real 0x8000_0000_0000_0000 ∷ close ∷ []) ≡
+    file (0xA2 ∷ 0x01 ∷ 0x02 ∷ 0x23 ∷ 0x00 ∷ 0x00 ∷ 0x00 ∷ 0x00 ∷ 0x00 ∷ 0x00 ∷ 0x00 ∷ 0x00 ∷ 0x23 ∷ 0x80 ∷ 0x00 ∷ 0x00 ∷ 0x00 ∷ 0x00 ∷ 0x00 ∷ 0x00 ∷ 0x00 ∷ 0x08 ∷ 0x0B ∷ 0x14 ∷ []) 3 29) ×
+    -- ["a", the data 61]: two objects
+    (fileFor (array none ∷ text (0x61 ∷ []) ∷ bytes (0x61 ∷ []) ∷ close ∷ []) ≡
+    file (0xA2 ∷ 0x01 ∷ 0x02 ∷ 0x51 ∷ 0x61 ∷ 0x41 ∷ 0x61 ∷ 0x08 ∷ 0x0B ∷ 0x0D ∷ []) 3 15)
+unfolding fileFor fileOf magic body table tableAt offsetSize placeOf bytesAt refSize flat ahead pieceOf order number emission spoken names laid kids evens bodyOf objectOf meant meaningIn same sameBytes nub nubOnto has indexOf objectBytes scalarBytes textBytes headBytes nibbleOf integerBytes numberBytes numbersBytes sizeMarker trailerBytes bytesOf bitsOf sizeOf rounded needed isAscii bytesFor seven groups readAt readingOf itemAt ofKind plain partAt numbered negative dataIn textIn meaningAt meaningOf valueOf givenOf realOf floatBits nanBits isNan ofBits toBits numberAt numberFrom onto eightAt be digit isUtf8 wellFormed rowOf rows within
+examples = (refl, refl, refl, refl, refl, refl, refl, refl, refl, refl)
