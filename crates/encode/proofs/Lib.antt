@@ -1,0 +1,4 @@
+pub mod Heads
+pub mod Putting
+pub mod Runs
+pub mod Wide

@@ -1,0 +1,114 @@
+-- A text in UTF-16: changed into the part behind the head, and the head written after it.
+use mathlib.Core.Bool.{Bool, true, false}
+use mathlib.Core.List.{List, [], _++_}
+use mathlib.Core.Path.{_≡_, refl, ap, sym, _∙_}
+use Prim.Native.Nat.{ℕ, _+_, _-_, _≤_, _<_}
+use native.Mathlib.Omega.{arith}
+use borrow.Author.Tests.{ltb-true, ltb-false}
+use borrow.Rule.Slice.PartMut.{putMid, midOf, mid-len, put-same}
+use lib.Dec.{ltb}
+use lib.ListN.{length, length-append}
+use lib.Seq.{sets}
+use Rattle.unicode.specs.Changed.{changedOf, changedTo}
+use Rattle.unicode.specs.ChangedAnswers as answers
+use Rattle.unicode.specs.Unicode.{isUtf8, toUtf16}
+use Rattle.unicode.specs.declared.changed.Changed.the-variants.{Written, NotText, NoRoom}
+use Rattle.unicode.specs.declared.changed.Changed.{Changed}
+use Rattle.written.specs.Encoding.{headBytes}
+use Rattle.encode.specs.Put.{wide}
+use Rattle.encode.specs.Size.{headSize}
+use Rattle.encode.specs.PutLaws.{put-room, put-at}
+use Rattle.encode.specs.SizeLaws.{length-head}
+use Rattle.encode.proofs.Putting.{Puts, nothing, refused, written, renamed, sets-front}
+
+-- what an answer tells, and the memory that it leaves
+abbrev Told : Bool → List ℕ → List ℕ → Changed → Type 0
+Told ok text out NotText = (ok ≡ false) × (changedTo ok text out ≡ out)
+Told ok text out NoRoom = (ok ≡ true) × (length out < length text) × (changedTo ok text out ≡ out)
+Told ok text out (Written n) = (ok ≡ true) × (length text ≤ length out) × (n ≡ length text) × (changedTo ok text out ≡ sets out 0 text)
+
+told : (ok : Bool) (text out : List ℕ) → Told ok text out (changedOf ok text out)
+told ok text out = go ok (ltb (length out) (length text)) refl refl
+  where
+    go : (a b : Bool) → ok ≡ a → ltb (length out) (length text) ≡ b → Told ok text out (changedOf ok text out)
+    go false b e f =
+        let n = answers.not-text ok text out e in
+        rw (← n .answer) (e, sym (n .memory))
+    go true true e f =
+        let h : length out < length text = ltb-true _ _ f in
+        let n = answers.no-room ok text out (length text) e refl h in
+        rw (← n .answer) (e, h, sym (n .memory))
+    go true false e f =
+        let h : length text ≤ length out = ltb-false _ _ f in
+        let n = answers.written ok text out (length text) e refl h in
+        rw (← n .answer) (e, h, refl, sym (n .memory))
+
+module _ (units : ℕ) (s : List ℕ) where
+  -- the bytes that are to be put
+  wide-text : isUtf8 s ≡ true → headBytes 0x60 units ++ toUtf16 s ≡ wide units s
+  unfolding wide
+  wide-text e = rw e
+
+  wide-none : isUtf8 s ≡ false → [] ≡ wide units s
+  unfolding wide
+  wide-none e = rw e
+
+  wide-length : length (headBytes 0x60 units ++ toUtf16 s) ≡ headSize units + length (toUtf16 s)
+  wide-length = length-append (headBytes 0x60 units) (toUtf16 s) ∙ rw (length-head 0x60 units)
+
+  -- no room for the head
+  pub wide-short : (l : List ℕ) → length l < headSize units → Puts l (wide units s) 0 l
+  wide-short l h = go (isUtf8 s) refl
+    where
+      go : (b : Bool) → isUtf8 s ≡ b → Puts l (wide units s) 0 l
+      go false e = renamed l (wide-none e) (nothing l)
+      go true e = renamed l (wide-text e) (refused l _ (omega (arith, wide-length)))
+
+-- the text was changed into the part behind the head: the answer r, and the part m after it
+pub record Changing (l : List ℕ) (units : ℕ) (s : List ℕ) (head : ℕ) (r : Changed) (m : List ℕ) : Type 0 where
+  pub is : head ≡ headSize units
+  pub within : head ≤ length l
+  pub answer : r ≡ changedOf (isUtf8 s) (toUtf16 s) (midOf head (length l - head) l)
+  pub memory : m ≡ changedTo (isUtf8 s) (toUtf16 s) (midOf head (length l - head) l)
+
+module _ {l : List ℕ} {units : ℕ} {s : List ℕ} {head : ℕ} {r : Changed} {m : List ℕ} (g : Changing l units s head r m) where
+  abbrev part : List ℕ
+  part = midOf head (length l - head) l
+
+  part-length : length part ≡ length l - head
+  part-length = mid-len head (length l) l (omega arith)
+
+  tells : Told (isUtf8 s) (toUtf16 s) (midOf head (length l - head) l) r
+  tells = rw (g .answer) (told (isUtf8 s) (toUtf16 s) part)
+
+  -- the part comes back as it was
+  same : changedTo (isUtf8 s) (toUtf16 s) part ≡ part → putMid head (length l - head) l m ≡ l
+  same e = ap (putMid head (length l - head) l) (g .memory ∙ e) ∙ put-same head (length l - head) l
+
+module _ {l : List ℕ} {units : ℕ} {s : List ℕ} {head : ℕ} {m : List ℕ} where
+  pub wide-no-text : Changing l units s head NotText m → Puts l (wide units s) 0 (putMid head (length l - head) l m)
+  wide-no-text g =
+      let t = tells g in
+      rw (same g (t .1)) (renamed l (wide-none units s (t .0)) (nothing l))
+
+  pub wide-no-room : Changing l units s head NoRoom m → Puts l (wide units s) 0 (putMid head (length l - head) l m)
+  wide-no-room g =
+      let t = tells g in
+      rw (same g (t .2)) (renamed l (wide-text units s (t .0)) (refused l _ (omega (arith, wide-length units s, part-length g, t .1, g .is))))
+
+  module _ {n : ℕ} (g : Changing l units s head (Written n) m) where
+    pub wide-fits : head + n ≤ length l
+    wide-fits =
+        let t = tells g in
+        omega (arith, part-length g, t .1, t .2, g .within)
+
+    pub wide-written : {x : List ℕ} → x ≡ sets (putMid head (length l - head) l m) 0 (headBytes 0x60 units) → Puts l (wide units s) (head + n) x
+    wide-written f =
+        let t = tells g in
+        let u = toUtf16 s in
+        let hb = headBytes 0x60 units in
+        let room : head + length u ≤ length l = omega (arith, wide-fits, t .2) in
+        let q : putMid head (length l - head) l m ≡ sets l head u = ap (putMid head (length l - head) l) (g .memory ∙ t .3 ∙ sym (put-room (part g) u (t .1) .0)) ∙ put-at l head (length l) u room (omega arith) in
+        let k : length hb ≡ head = length-head 0x60 units ∙ sym (g .is) in
+        let p : sets (sets l head u) 0 hb ≡ sets l 0 (hb ++ u) = rw k at (sets-front l hb u (omega arith)) in
+        renamed l (wide-text units s (t .0)) (written l _ (omega (arith, wide-length units s, g .is)) (omega (arith, wide-length units s, t .2, g .is)) (f ∙ rw q p))

@@ -1,0 +1,5 @@
+pub mod Put
+pub mod PutLaws
+pub mod ScalarLaws
+pub mod Size
+pub mod SizeLaws
