@@ -1,0 +1,7 @@
+pub mod Container
+pub mod Events
+pub mod Lent
+pub mod Numbers
+pub mod Objects
+pub mod Once
+pub mod Saying

@@ -1,0 +1,56 @@
+-- Tapes and what the writer answers and leaves in the output, computed. Whole files stand in crates/written/specs/Examples.antt, refusals of the
+-- check in crates/grammar/specs/Examples.antt.
+use mathlib.Core.List.{List, [], _∷_, _++_}
+use mathlib.Core.Path.{_≡_, refl}
+use Prim.Native.Nat.{ℕ}
+use lib.ListN.{replicate}
+use Rattle.event.specs.Format.{magic}
+use Rattle.event.specs.Meaning.{meaningOf, valueOf, givenOf}
+use Rattle.number.specs.Be.{be, onto as digit, bytesOf}
+use Rattle.number.specs.Size.{needed, rounded, sizeOf}
+use Rattle.tape.specs.Code.{bytesFor}
+use Rattle.tape.specs.Events.{before, eventsFrom, eventsOf}
+use Rattle.tape.specs.Item.{plain, bytesAt as partAt, numbered, textIn, ofKind, itemAt, meaningIn as meaningAt, readingOf, readAt}
+use Rattle.tape.specs.Seven.{groups, seven}
+use Rattle.tape.specs.Value.{onto, numberFrom, numberAt}
+use Rattle.unicode.specs.Unicode.{isAscii, isUtf8, wellFormed, rowOf, table as rows, within}
+use Rattle.grammar.specs.Check.{moveOf, finishOf, checkFrom, checkOf}
+use Rattle.grammar.specs.Said.{numberOf, kindsOf, refusedAt}
+use Rattle.grammar.specs.Turn.{isNothing, afterOf, unexpectedOf, unlessKey, endTurn, textTurn, turnOf, stoppedAt, turnBy, turnAt}
+use Rattle.grammar.specs.declared.answer.EventKind.the-variants.{DictionaryKeyOrEndCollection, Integer}
+use Rattle.written.specs.Encoding.{sizeMarker, numberBytes, integerBytes, nibbleOf, headBytes, textBytes, scalarBytes, numbersBytes, objectBytes, trailerBytes}
+use Rattle.written.specs.File.{flat, ahead, refSize, bytesAt, body, placeOf, tableAt, offsetSize, table, fileOf, fileFor}
+use Rattle.written.specs.Graph.{pieceOf, sameBytes, same, kids, evens, laid, names, order, number, meaningIn, meant, bodyOf, objectOf, spoken, emission}
+use Rattle.written.specs.Nub.{has, nub, nubOnto, indexOf}
+use Rattle.writer.specs.Ready.{meantBy, meaningsIn}
+use Rattle.writer.specs.Write.{long, refused, wordsFor, fittedOf, byCheck, writeOf, outputBy, outputOf, usedBy, usedOf}
+
+-- document 01's P10, [1, "a", 1], with a given length: five events, a file of 51 bytes
+abbrev tape : List ℕ
+tape = 0x0B ∷ 0x03 ∷ 0x03 ∷ 0x01 ∷ 0x09 ∷ 0x01 ∷ 0x61 ∷ 0x03 ∷ 0x01 ∷ 0x0E ∷ []
+
+abbrev written : List ℕ
+written =
+    0x62 ∷ 0x70 ∷ 0x6C ∷ 0x69 ∷ 0x73 ∷ 0x74 ∷ 0x30 ∷ 0x30 ∷ 0xA3 ∷ 0x01 ∷ 0x02 ∷ 0x01 ∷ 0x10 ∷ 0x01 ∷ 0x51 ∷ 0x61 ∷ 0x08 ∷ 0x0C ∷ 0x0E ∷ 0 ∷ 0 ∷ 0 ∷ 0 ∷ 0 ∷ 0 ∷ 1 ∷ 1 ∷
+    0 ∷ 0 ∷ 0 ∷ 0 ∷ 0 ∷ 0 ∷ 0 ∷ 3 ∷ 0 ∷ 0 ∷ 0 ∷ 0 ∷ 0 ∷ 0 ∷ 0 ∷ 0 ∷ 0 ∷ 0 ∷ 0 ∷ 0 ∷ 0 ∷ 0 ∷ 0 ∷ 16 ∷ []
+
+-- just enough room; a word too few; a byte too few; both: the words are asked for first
+pub answers :
+    (writeOf tape 30 51 ≡ long 51) ×
+    (writeOf tape 29 51 ≡ refused 24 [] 0) ×
+    (writeOf tape 30 50 ≡ refused 25 [] 0) ×
+    (writeOf tape 29 50 ≡ refused 24 [] 0) ×
+    -- a tape that is none is refused first: {1 ..
+    (writeOf (0x0C ∷ 0x03 ∷ 0x01 ∷ []) 0 0 ≡ refused 21 (DictionaryKeyOrEndCollection ∷ Integer ∷ []) 1)
+unfolding writeOf byCheck wordsFor fittedOf meaningsIn meantBy eventsOf eventsFrom before checkOf checkFrom finishOf moveOf refusedAt numberOf kindsOf isNothing afterOf unexpectedOf unlessKey endTurn textTurn turnOf stoppedAt turnBy turnAt fileFor fileOf magic body table tableAt offsetSize placeOf bytesAt refSize flat ahead pieceOf order number emission spoken names laid kids evens bodyOf objectOf meant meaningIn same sameBytes nub nubOnto has indexOf objectBytes scalarBytes textBytes headBytes nibbleOf integerBytes numberBytes numbersBytes sizeMarker trailerBytes bytesOf sizeOf rounded needed isAscii bytesFor seven groups readAt readingOf itemAt ofKind plain partAt numbered textIn meaningAt meaningOf valueOf givenOf numberAt numberFrom onto be digit isUtf8 wellFormed rowOf rows within
+answers = (refl, refl, refl, refl, refl)
+
+-- the file stands at the output's start, and what lies behind it stays; a refusal leaves it all; how many words may change
+pub memory :
+    (outputOf tape 30 (replicate 53 7) ≡ written ++ (7 ∷ 7 ∷ [])) ×
+    (outputOf tape 30 (replicate 50 7) ≡ replicate 50 7) ×
+    (outputOf tape 29 (replicate 53 7) ≡ replicate 53 7) ×
+    (usedOf tape 40 ≡ 30) ×
+    (usedOf tape 29 ≡ 0)
+unfolding writeOf byCheck wordsFor fittedOf outputBy outputOf usedBy usedOf meaningsIn meantBy eventsOf eventsFrom before checkOf checkFrom finishOf moveOf refusedAt numberOf kindsOf isNothing afterOf unexpectedOf unlessKey endTurn textTurn turnOf stoppedAt turnBy turnAt fileFor fileOf magic body table tableAt offsetSize placeOf bytesAt refSize flat ahead pieceOf order number emission spoken names laid kids evens bodyOf objectOf meant meaningIn same sameBytes nub nubOnto has indexOf objectBytes scalarBytes textBytes headBytes nibbleOf integerBytes numberBytes numbersBytes sizeMarker trailerBytes bytesOf sizeOf rounded needed isAscii bytesFor seven groups readAt readingOf itemAt ofKind plain partAt numbered textIn meaningAt meaningOf valueOf givenOf numberAt numberFrom onto be digit isUtf8 wellFormed rowOf rows within
+memory = (refl, refl, refl, refl, refl)
