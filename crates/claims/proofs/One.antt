@@ -30,6 +30,8 @@ use Rattle.exports.proofs.text.zm_utf16_to_utf8.Kinds as zm-utf16-to-utf8-kinds
 use Rattle.exports.proofs.text.zm_utf16_to_utf8.Reads as zm-utf16-to-utf8-reads
 use Rattle.exports.proofs.text.zm_utf8_to_utf16.Kinds as zm-utf8-to-utf16-kinds
 use Rattle.exports.proofs.text.zm_utf8_to_utf16.Reads as zm-utf8-to-utf16-reads
+use Rattle.exports.proofs.tape_append.zm_tape_append.Kinds as zm-tape-append-kinds
+use Rattle.exports.proofs.tape_append.zm_tape_append.Reads as zm-tape-append-reads
 use Rattle.exports.proofs.tape_step.zm_tape_step.Kinds as zm-tape-step-kinds
 use Rattle.exports.proofs.tape_step.zm_tape_step.Reads as zm-tape-step-reads
 use Rattle.exports.proofs.transcript.zm_transcribe.Kinds as zm-transcribe-kinds
@@ -296,6 +298,9 @@ zm-utf16-to-utf8-one κs a x y e f p q = (p .0 ∙ sym (q .0), p .1 ∙ sym (q .
 
 zm-utf8-to-utf16-one : One 2 zm-utf8-to-utf16-kinds.ps zm-utf8-to-utf16-kinds.r zm-utf8-to-utf16-reads.Post (List ℕ) (λ κs e. now (e .1 .0))
 zm-utf8-to-utf16-one κs a x y e f p q = (p .0 ∙ sym (q .0), p .1 ∙ sym (q .1))
+
+zm-tape-append-one : One 2 zm-tape-append-kinds.ps zm-tape-append-kinds.r zm-tape-append-reads.Post (List ℕ) (λ κs e. now (e .0))
+zm-tape-append-one κs a x y e f p q = (p .0 ∙ sym (q .0), p .1 ∙ sym (q .1))
 
 zm-tape-step-one : One 4 zm-tape-step-kinds.ps zm-tape-step-kinds.r zm-tape-step-reads.Post (record { value : ℕ; start : ℕ; length : ℕ }) (λ κs e. record { value = now (e .1 .1 .0); start = now (e .1 .1 .1 .0); length = now (e .1 .1 .1 .1 .0) })
 zm-tape-step-one κs a x y e f p q = (

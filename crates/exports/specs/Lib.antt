@@ -1,4 +1,7 @@
 pub mod Codes
 pub mod CodesLaws
+pub mod TapeAppend
 pub mod TapeStep
 pub mod Transcript
+pub mod Write
+pub mod WriteLaws

@@ -1,0 +1,8 @@
+// Answers tapes in hex, one a line, as compare/README.md says of `oracle write`, and what document 01 fixes where the Rust is not asked. A
+// line that says what is lent is answered with all that the writer leaves.
+mod answer;
+
+fn main() {
+    let mut buffer = [0u8; 262144];
+    answer::all(&mut buffer);
+}

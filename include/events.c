@@ -1,0 +1,22 @@
+/* Prints the listing of a property list on standard input, as ./list does, of at most 1 MB. README.md says how it is built. */
+#include <stdio.h>
+#include "zurrimannu.h"
+
+static uint8_t file[1 << 20], scratch[3 << 19], tape[1 << 24];
+static const char *lines[] = {"", "false", "true", "int %llu", "int -%llu", "real %016llx", "date %016llx", "uid %llu",
+                              "data %llu", "str %llu", "array", "array %llu", "dict", "dict %llu", "close"};
+
+int main(void) {
+    uint64_t held, place, next, value, start, length;
+    size_t n = fread(file, 1, sizeof file, stdin);
+    if (getchar() != EOF) return puts("more than 1 MB"), 1;
+    uint32_t ending = zm_transcribe(file, n, scratch, sizeof scratch, tape, sizeof tape, UINT64_MAX, &held, &place);
+    puts("events");
+    for (uint64_t at = 0; at < held; at = next) {
+        next = zm_tape_step(tape, held, at, &value, &start, &length); /* an event has a value or a length, or neither */
+        printf(lines[tape[at]], (unsigned long long)(value + length + (tape[at] == ZM_NEGATIVE)));
+        for (uint64_t i = 0; i < length; i++) printf(i ? "%02x" : " %02x", tape[start + i]);
+        putchar('\n');
+    }
+    ending == ZM_ENDED ? puts("end") : printf("refused %u at %llu\n", ending, (unsigned long long)place);
+}

@@ -1,0 +1,169 @@
+/*
+ * Binary property lists, read and written by proved functions: the C side of the crate `exports`.
+ *
+ * The library is target/staticlib/libexports.a, for x86-64; `rt staticlib exports` makes it.
+ *
+ * A piece of memory passes as a pointer and the number of its elements. The pointer isn't NULL and is aligned for its type, even where
+ * the number is 0. Memory that a function may write to overlaps nothing else that is passed, nor do the single numbers that it fills in.
+ * It is used during the call alone. No function allocates, keeps anything or touches other memory. Any content is answered: nothing
+ * goes wrong but what is named here.
+ *
+ * "Refused N" is a number of docs/FORMAT.md, which has the rules, as crates/exports/specs has the exact promises.
+ */
+#ifndef ZURRIMANNU_H
+#define ZURRIMANNU_H
+
+#include <stdbool.h>
+#include <stddef.h>
+#include <stdint.h>
+
+#ifdef __cplusplus
+extern "C" {
+#endif
+
+/* The numbers of refusals, of the reader (1 to 17), the event tape (20, 27) and the writer (1, 15, 20 to 26). */
+enum {
+    ZM_TOO_LONG = 1,
+    ZM_END_OF_INPUT = 2,
+    ZM_INVALID_MAGIC = 3,
+    ZM_INVALID_TRAILER_OBJECT_OFFSET_SIZE = 4,
+    ZM_INVALID_TRAILER_OBJECT_REFERENCE_SIZE = 5,
+    ZM_OBJECT_OFFSET_TOO_LARGE = 6,
+    ZM_OBJECT_REFERENCE_TOO_LARGE = 7,
+    ZM_NULL_OBJECT_UNIMPLEMENTED = 8,
+    ZM_FILL_OBJECT_UNIMPLEMENTED = 9,
+    ZM_UNKNOWN_OBJECT_TYPE = 10,
+    ZM_INTEGER_OUT_OF_RANGE = 11,
+    ZM_INVALID_UTF8_STRING = 12,
+    ZM_INVALID_UTF16_STRING = 13,
+    ZM_RECURSIVE_OBJECT = 14,
+    ZM_TOO_DEEP = 15,
+    ZM_NO_ROOM_FOR_TEXT = 16,
+    ZM_WRONG_FILE = 17,
+    ZM_BAD_TAPE = 20,
+    ZM_UNEXPECTED_EVENT_TYPE = 21,
+    ZM_INCOMPLETE_ROOT = 22,
+    ZM_TRAILING_EVENTS = 23,
+    ZM_NO_ROOM_FOR_WORK = 24,
+    ZM_NO_ROOM_FOR_OUTPUT = 25,
+    ZM_FILE_TOO_LONG = 26,
+    ZM_NO_ROOM_FOR_TAPE = 27,
+};
+
+/* --- text ------------------------------------------------------------------------------------------ */
+
+/* Whether bytes are well-formed UTF-8, well-formed UTF-16 with the high byte first, or ASCII. */
+bool zm_is_utf8(const uint8_t *s, size_t length);
+bool zm_is_utf16(const uint8_t *s, size_t length);
+bool zm_is_ascii(const uint8_t *s, size_t length);
+
+/* What the changes of text answer in place of a length. */
+#define ZM_NOT_TEXT UINT64_MAX
+#define ZM_NO_ROOM (UINT64_MAX - 1)
+
+/*
+ * Text from one form to the other, to the start of `out`. They answer how many bytes that are; ZM_NOT_TEXT where the bytes aren't
+ * well-formed, else ZM_NO_ROOM where the text doesn't fit. Then `out` is as it was; what lies behind the text always is.
+ */
+uint64_t zm_utf8_to_utf16(const uint8_t *s, size_t length, uint8_t *out, size_t room);
+uint64_t zm_utf16_to_utf8(const uint8_t *s, size_t length, uint8_t *out, size_t room);
+
+/* --- reading --------------------------------------------------------------------------------------- */
+
+/* How a transcript ends where nothing is refused. */
+enum {
+    ZM_ENDED = 0,     /* the whole file is on the tape */
+    ZM_STOPPED = 255, /* `budget` events are */
+};
+
+/*
+ * Reads a file and puts its events on a tape, at most `budget` of them. Answers ZM_ENDED, ZM_STOPPED or the number of a refusal:
+ * of the reader, or 27 where an event doesn't fit on the tape. `*held` is then how many bytes of the tape are held, also where
+ * something is refused behind them; `*place` the place of the refusal, else 0.
+ *
+ * `scratch` is room for one text of the file that is UTF-16, changed to UTF-8; 16 says that it is too short. Three bytes for two of
+ * the file are always enough.
+ */
+uint32_t zm_transcribe(const uint8_t *file, size_t file_length, uint8_t *scratch, size_t scratch_length, uint8_t *tape,
+                       size_t tape_length, uint64_t budget, uint64_t *held, uint64_t *place);
+
+/* --- the event tape -------------------------------------------------------------------------------- */
+
+/* The kinds of events: the byte that stands on the tape, and what goes with it. */
+enum {
+    ZM_FALSE = 1,
+    ZM_TRUE = 2,
+    ZM_INTEGER = 3,  /* the number itself */
+    ZM_NEGATIVE = 4, /* of a negative integer n the number -1 - n, below 2^63 */
+    ZM_REAL = 5,     /* the 64 bits */
+    ZM_DATE = 6,     /* the 64 bits of a real: seconds since 2001-01-01 00:00:00 UTC */
+    ZM_UID = 7,      /* the number */
+    ZM_DATA = 8,     /* bytes */
+    ZM_TEXT = 9,     /* bytes, which are UTF-8 */
+    ZM_ARRAY = 10,
+    ZM_ARRAY_WITH_LENGTH = 11, /* the number of elements */
+    ZM_DICTIONARY = 12,
+    ZM_DICTIONARY_WITH_LENGTH = 13, /* the number of pairs */
+    ZM_END = 14,
+};
+
+/* What a step answers where the bytes are no event. */
+#define ZM_NO_EVENT UINT64_MAX
+
+/*
+ * The event at an offset of a tape; its kind is the byte there. Answers the offset of the next event, ZM_NO_EVENT where the bytes from
+ * `at` on are no whole event or `at` isn't on the tape. `*value` is the number that goes with the kind, else 0; of data and text
+ * `*start` is where the bytes begin and `*length` how many they are. Of an event without bytes `*length` is 0 and `*start` the answer.
+ * For what is no event all three are 0.
+ */
+uint64_t zm_tape_step(const uint8_t *tape, size_t tape_length, size_t at, uint64_t *value, uint64_t *start, uint64_t *length);
+
+/* What appending answers in place of a length. */
+#define ZM_APPEND_BAD_TEXT UINT64_MAX       /* refused 20: the text isn't UTF-8 */
+#define ZM_APPEND_NO_ROOM (UINT64_MAX - 1)  /* refused 27: the event doesn't fit */
+#define ZM_APPEND_NO_EVENT (UINT64_MAX - 2) /* `kind` is none of the kinds, or a negative integer is below -2^63 */
+
+/*
+ * Appends an event to a tape of which the first `held` bytes are used. `value` is the number that goes with the kind, `bytes` are those
+ * of data or text; what doesn't go with the kind isn't looked at. Answers how many bytes are held then; or ZM_APPEND_NO_EVENT, else
+ * ZM_APPEND_BAD_TEXT, else ZM_APPEND_NO_ROOM. Where nothing is appended the tape is as it was; what lies behind the event always is.
+ */
+uint64_t zm_tape_append(uint8_t *tape, size_t tape_length, size_t held, uint32_t kind, uint64_t value, const uint8_t *bytes,
+                        size_t bytes_length);
+
+/* --- writing --------------------------------------------------------------------------------------- */
+
+/* The kinds that 21 names as expected or found. */
+enum {
+    ZM_KIND_VALUE_OR_START_COLLECTION = 1,
+    ZM_KIND_DICTIONARY_KEY_OR_END_COLLECTION = 2,
+    ZM_KIND_START_ARRAY = 3,
+    ZM_KIND_START_DICTIONARY = 4,
+    ZM_KIND_END_COLLECTION = 5,
+    ZM_KIND_BOOLEAN = 6,
+    ZM_KIND_DATA = 7,
+    ZM_KIND_DATE = 8,
+    ZM_KIND_INTEGER = 9,
+    ZM_KIND_REAL = 10,
+    ZM_KIND_STRING = 11,
+    ZM_KIND_UID = 12,
+};
+
+/* Words that the writer works in, for each event of the tape, ends too. */
+#define ZM_WORDS_FOR_EVENT 6
+
+/*
+ * Writes the file of a tape, whose events are one whole value, to the start of `out`. Answers 0, and `*value` is the file's length; or
+ * the number of a refusal, and `*value` is its place, 0 where it has none. `*expected` and `*found` are the kinds that 21 names, else 0.
+ *
+ * After a refusal `out` is as it was; what lies behind the file always is. The first six words for each event change with a file, with
+ * 25 and with 26, and hold nothing of use then. All other words, and with any other refusal all of them, are as they were.
+ */
+uint32_t zm_write(const uint8_t *tape, size_t tape_length, uint32_t *work, size_t work_length, uint8_t *out, size_t out_length,
+                  uint64_t *value, uint32_t *expected, uint32_t *found);
+
+#ifdef __cplusplus
+}
+#endif
+
+#endif
