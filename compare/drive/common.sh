@@ -1,4 +1,4 @@
-# What compare/reads, compare/guard and compare/bench share; sourced by them. They set `here` and `stop`.
+# What compare/reads, compare/writes, compare/guard and compare/bench share; sourced by them. They set `here` and `stop`.
 
 target=$here/target
 drive=$here/drive
@@ -58,4 +58,12 @@ build_program() {
     "$rustc" "${flags[@]}" -C opt-level=3 -C codegen-units=1 --edition 2021 --crate-name "$1" \
         -o "$target/$1" -L "$target/lib" --extern plist="$target/lib/libplist.rlib" \
         -L "native=$project/target/staticlib" -l static=exports "$drive/$1.rs"
+}
+
+# Files of other writers, made once.
+make_real() {
+    [ ! -s "$target/real.txt" ] || [ "$target/real.txt" -ot "$drive/real.py" ] || return 0
+    command -v python3 >/dev/null || stop "no python3 for the files of other writers"
+    python3 "$drive/real.py" >"$target/real.new" || stop "drive/real.py failed"
+    mv "$target/real.new" "$target/real.txt"
 }

@@ -111,25 +111,8 @@ fn scalars(random: &mut Random, stock: &Stock) -> Vec<u8> {
     build(&[scalar(random, stock)], Shape { gap, ..PLAIN })
 }
 
-/// Bytes about the limits: whole characters, cut ones, and bytes that never fit.
 fn utf8(random: &mut Random, _: &Stock) -> Vec<u8> {
-    let mut bytes = Vec::new();
-    for _ in 0..1 + random.below(4) {
-        let whole = char::from_u32(random.of(&SCALARS))
-            .unwrap_or('a')
-            .to_string()
-            .into_bytes();
-        match random.below(8) {
-            0..=3 => bytes.extend(whole),
-            4 => bytes.extend(&whole[..1 + random.below(whole.len())]),
-            5 => (0..random.below(12)).for_each(|_| bytes.push(random.of(b"az09 "))),
-            _ => {
-                bytes.push(random.of(&LEADS));
-                (0..random.below(4)).for_each(|_| bytes.push(random.of(&FOLLOWS)));
-            }
-        }
-    }
-    build(&[text8(&bytes)], PLAIN)
+    build(&[text8(&edge_text(random))], PLAIN)
 }
 
 /// Units about the surrogates: pairs, lone ones, pairs the wrong way round.

@@ -219,3 +219,24 @@ pub fn good_text(random: &mut Random, most: usize) -> String {
 pub fn good_units(random: &mut Random, most: usize) -> Vec<u16> {
     good_text(random, most).encode_utf16().collect()
 }
+
+/// Bytes about the limits: whole characters, cut ones, and bytes that never fit.
+pub fn edge_text(random: &mut Random) -> Vec<u8> {
+    let mut bytes = Vec::new();
+    for _ in 0..1 + random.below(4) {
+        let whole = char::from_u32(random.of(&SCALARS))
+            .unwrap_or('a')
+            .to_string()
+            .into_bytes();
+        match random.below(8) {
+            0..=3 => bytes.extend(whole),
+            4 => bytes.extend(&whole[..1 + random.below(whole.len())]),
+            5 => (0..random.below(12)).for_each(|_| bytes.push(random.of(b"az09 "))),
+            _ => {
+                bytes.push(random.of(&LEADS));
+                (0..random.below(4)).for_each(|_| bytes.push(random.of(&FOLLOWS)));
+            }
+        }
+    }
+    bytes
+}

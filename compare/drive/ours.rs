@@ -20,6 +20,26 @@ extern "C" {
         start: *mut u64,
         length: *mut u64,
     ) -> u64;
+    fn zm_tape_append(
+        tape: *mut u8,
+        tape_length: usize,
+        held: usize,
+        kind: u32,
+        value: u64,
+        bytes: *const u8,
+        bytes_length: usize,
+    ) -> u64;
+    fn zm_write(
+        tape: *const u8,
+        tape_length: usize,
+        work: *mut u32,
+        work_length: usize,
+        out: *mut u8,
+        out_length: usize,
+        value: *mut u64,
+        expected: *mut u32,
+        found: *mut u32,
+    ) -> u32;
 }
 
 /// The numbers of the endings that aren't refusals: crates/exports/specs/Transcript.antt.
@@ -75,5 +95,59 @@ pub fn tape_step(tape: &[u8], at: usize) -> Option<(usize, u64, usize, usize)> {
     match next {
         u64::MAX => None,
         n => Some((n as usize, value, start as usize, length as usize)),
+    }
+}
+
+/// How many bytes are held afterwards. `None` is a refusal.
+pub fn tape_append(
+    tape: &mut [u8],
+    held: usize,
+    kind: u8,
+    value: u64,
+    bytes: &[u8],
+) -> Option<usize> {
+    let after = unsafe {
+        zm_tape_append(
+            tape.as_mut_ptr(),
+            tape.len(),
+            held,
+            kind.into(),
+            value,
+            bytes.as_ptr(),
+            bytes.len(),
+        )
+    };
+    (after < u64::MAX - 2).then_some(after as usize)
+}
+
+/// What the writer answers: 0 and the file's length, or a refusal's number and place, and the kinds that 21 names.
+#[derive(Clone, Copy, Debug, PartialEq)]
+pub struct Written {
+    pub number: u32,
+    pub value: u64,
+    pub expected: u32,
+    pub found: u32,
+}
+
+pub fn write(tape: &[u8], work: &mut [u32], out: &mut [u8]) -> Written {
+    let (mut value, mut expected, mut found) = (u64::MAX, u32::MAX, u32::MAX);
+    let number = unsafe {
+        zm_write(
+            tape.as_ptr(),
+            tape.len(),
+            work.as_mut_ptr(),
+            work.len(),
+            out.as_mut_ptr(),
+            out.len(),
+            &mut value,
+            &mut expected,
+            &mut found,
+        )
+    };
+    Written {
+        number,
+        value,
+        expected,
+        found,
     }
 }

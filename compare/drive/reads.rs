@@ -2,6 +2,8 @@
 
 mod families;
 mod files;
+mod hex;
+#[allow(dead_code)]
 mod ours;
 mod random;
 mod tape;
@@ -9,7 +11,7 @@ mod theirs;
 
 use std::{
     cell::Cell,
-    env, fs,
+    env,
     panic::{self, AssertUnwindSafe},
     process::ExitCode,
     time::Instant,
@@ -52,7 +54,7 @@ struct Settings {
 impl Settings {
     fn read() -> Option<Settings> {
         let words: Vec<String> = env::args().skip(1).collect();
-        let (recorded, real) = (hex_lines(words.first()?)?, hex_lines(words.get(1)?)?);
+        let (recorded, real) = (hex::lines(words.first()?)?, hex::lines(words.get(1)?)?);
         let mut settings = Settings {
             recorded,
             real,
@@ -68,22 +70,6 @@ impl Settings {
         }
         Some(settings)
     }
-}
-
-/// The last word of each line, from hex. An empty line is an empty file.
-fn hex_lines(path: &str) -> Option<Vec<Vec<u8>>> {
-    let lines = fs::read_to_string(path).ok()?;
-    lines
-        .lines()
-        .map(|line| from_hex(line.split(' ').next_back()?))
-        .collect()
-}
-
-fn from_hex(text: &str) -> Option<Vec<u8>> {
-    let pairs = (0..text.len()).step_by(2);
-    pairs
-        .map(|i| u8::from_str_radix(text.get(i..i + 2)?, 16).ok())
-        .collect()
 }
 
 fn run(settings: &Settings) -> ExitCode {
@@ -251,7 +237,10 @@ impl Judge {
     fn differs(&mut self, family: &str, file: &[u8], difference: String) {
         self.differences += 1;
         if self.differences <= SHOWN as u64 {
-            println!("difference in {family}: {difference}\n  {}", hex(file));
+            println!(
+                "difference in {family}: {difference}\n  {}",
+                hex::shown(file)
+            );
         }
         let smaller = |(other, _): &(Vec<u8>, String)| file.len() < other.len();
         if self.smallest.as_ref().is_none_or(smaller) {
@@ -285,7 +274,7 @@ impl Judge {
             println!(
                 "smallest that differs, {} bytes: {difference}\n  {}",
                 file.len(),
-                hex(file)
+                hex::shown(file)
             );
         }
         println!(
@@ -334,16 +323,4 @@ fn ends(
             "{got:?}, the crate's {number} at {place:?}, tape {at}"
         )),
     }
-}
-
-fn hex(bytes: &[u8]) -> String {
-    let most = bytes.len().min(2000);
-    let mut out: String = bytes[..most]
-        .iter()
-        .map(|byte| format!("{byte:02x}"))
-        .collect();
-    if most < bytes.len() {
-        out.push_str("..");
-    }
-    out
 }
