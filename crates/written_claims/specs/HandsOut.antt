@@ -1,0 +1,60 @@
+-- An answer of the reader hands out an event; the text request gives the bytes of its data or text.
+use mathlib.Core.Bool.{true, cond}
+use mathlib.Core.List.{List, [], _∷_}
+use mathlib.Core.Path.{_≡_}
+use Prim.Native.Nat.{ℕ, _≤_}
+use lib.ListN.{length}
+use Rattle.event.specs.Meaning.{Meaning, array, dictionary, close, boolean, bytes, date, integer, real, text, uid}
+use Rattle.event.specs.declared.Event.{Event}
+use Rattle.unicode.specs.Unicode.{isAscii}
+use Rattle.reader.specs.Machine.{Said, event}
+use Rattle.reader.specs.Meanings.{meaningAt}
+use Rattle.reader.specs.Request.{Asked, long, hasBytes, askedOf, lengthSaid, scratchAfter, partSaid}
+use Rattle.transcribe.specs.TranscriptLaws.{Put}
+
+-- the bytes of data or text
+unfoldable pub contentOf : Meaning → List ℕ
+contentOf (array n) = []
+contentOf (dictionary n) = []
+contentOf close = []
+contentOf (boolean b) = []
+contentOf (bytes s) = s
+contentOf (date b) = []
+contentOf (integer z) = []
+contentOf (real b) = []
+contentOf (text s) = s
+contentOf (uid n) = []
+
+-- the scratch that they need: data and ASCII text stand in the file, other text is changed to UTF-8
+unfoldable pub scratchFor : Meaning → ℕ
+scratchFor (array n) = 0
+scratchFor (dictionary n) = 0
+scratchFor close = 0
+scratchFor (boolean b) = 0
+scratchFor (bytes s) = 0
+scratchFor (date b) = 0
+scratchFor (integer z) = 0
+scratchFor (real b) = 0
+scratchFor (text s) = cond (isAscii s) 0 (length s)
+scratchFor (uid n) = 0
+
+-- both calls of the request: the length, and then the bytes; the scratch stays as long as it was
+pub record Gives (file scratch : List ℕ) (at : ℕ) (a : Asked) (content : List ℕ) : Type 0 where
+  pub first : lengthSaid file scratch at a ≡ long (length content)
+  pub second : partSaid file (scratchAfter file scratch a) a ≡ content
+  pub scratch-is : length (scratchAfter file scratch a) ≡ length scratch
+
+-- an event with its meaning and offset; if it is data or text, its bytes wherever the scratch has room for them
+pub record HandsOut (file : List ℕ) (p : Put) (x : Said) : Type 0 where
+  pub e : Event
+  pub is : x ≡ event e (p .offset)
+  pub means : meaningAt file e (p .offset) ≡ p .meaning
+  pub gives : hasBytes e ≡ true → (scratch : List ℕ) → scratchFor (p .meaning) ≤ length scratch
+      → Gives file scratch (p .offset) (askedOf file (record { event = e; offset = p .offset })) (contentOf (p .meaning))
+
+-- answer by answer
+abbrev pub HandOut : List ℕ → List Put → List Said → Type 0
+HandOut file [] [] = Unit {0}
+HandOut file [] (x ∷ xs) = ⊥
+HandOut file (p ∷ ps) [] = ⊥
+HandOut file (p ∷ ps) (x ∷ xs) = HandsOut file p x × HandOut file ps xs

@@ -1,0 +1,69 @@
+-- An event whose bytes stand in the file as its meaning asks is handed out with them.
+use mathlib.Core.Bool.{true, false, cond, true≢false, false≢true}
+use mathlib.Core.List.{List, [], _∷_, _++_, map}
+use mathlib.Core.Path.{_≡_, refl, sym, ap, _∙_}
+use Prim.Native.Nat.{ℕ, _≤_}
+use native.Mathlib.Omega.{arith}
+use borrow.Author.Tests.{le-leb, le-ltb}
+use lib.ListN.{length, drop, length-append, length-drop}
+use lib.Seq.{take-append-seam}
+use Rattle.event.specs.Meaning.{meaningOf}
+use Rattle.event.specs.declared.Event.{Event}
+use Rattle.event.specs.declared.Event.the-variants.{StartArray, StartDictionary, EndCollection, Boolean, Data, Date, Integer, Real, Nan, String, Uid}
+use Rattle.unicode.specs.Unicode.{isAscii, toUtf8}
+use Rattle.object.specs.Content.{part}
+use Rattle.reader.specs.Machine.{Said, event}
+use Rattle.reader.specs.Meanings.{bytesAsked, meaningAt, told}
+use Rattle.reader.specs.Request.{Asked, inFile, wide, denied, long, eventAsked, hasBytes, askedOf, lengthSaid, scratchAfter, partSaid}
+use Rattle.reader.specs.State.{maxLength}
+use Rattle.transcribe.specs.TranscriptLaws.{Put, toldOf}
+use Rattle.written_claims.specs.HandsOut.{contentOf, scratchFor, Gives, HandsOut, HandOut}
+use Rattle.written_claims.specs.Shown.{Asks}
+
+-- the bytes beside a data or text event are its content
+pub content-is : (e : Event) (s : List ℕ) → hasBytes e ≡ true → contentOf (meaningOf e s) ≡ s
+unfolding hasBytes meaningOf contentOf
+content-is (StartArray n) s h = absurd (false≢true h)
+content-is (StartDictionary n) s h = absurd (false≢true h)
+content-is EndCollection s h = absurd (false≢true h)
+content-is (Boolean b) s h = absurd (false≢true h)
+content-is Data s h = refl
+content-is (Date b) s h = absurd (false≢true h)
+content-is (Integer i) s h = absurd (false≢true h)
+content-is (Real x) s h = absurd (false≢true h)
+content-is (Nan b) s h = absurd (false≢true h)
+content-is String s h = refl
+content-is (Uid n) s h = absurd (false≢true h)
+
+module _ (file : List ℕ) (e : Event) (at : ℕ) (h : hasBytes e ≡ true) (scratch : List ℕ) where
+  gives-by : (a : Asked) → Asks file e a → scratchFor (meaningOf e (bytesAsked file a)) ≤ length scratch → Gives file scratch at a (contentOf (meaningOf e (bytesAsked file a)))
+  unfolding bytesAsked lengthSaid scratchAfter partSaid scratchFor meaningOf
+  gives-by (denied number values) d room = absurd (true≢false (sym h ∙ d))
+  gives-by (inFile start n) d room = rw (content-is e (part file start n) h) (record { first = ap long (sym d); second = refl; scratch-is = refl })
+  gives-by (wide start n) d room =
+      let t = toUtf8 (part file start n) in
+      let needs : cond (isAscii t) 0 (length t) ≤ length scratch = rw (d .0) at room in
+      let fits : length t ≤ length scratch = rw (d .1) at needs in
+      let l : length (t ++ drop (length t) scratch) ≡ length scratch = rw (length-append, length-drop) (omega arith) in
+      rw (content-is e t h) (record {
+        first = rw (le-leb (length t) (length scratch) fits);
+        second = rw (le-leb (length t) (length scratch) fits, l, le-leb (length t) (length scratch) fits) (take-append-seam t (drop (length t) scratch));
+        scratch-is = rw (le-leb (length t) (length scratch) fits) l;
+      })
+
+pub hands-out : (file : List ℕ) → length file ≤ maxLength → (p : Put) (e : Event) → meaningAt file e (p .offset) ≡ p .meaning → Asks file e (eventAsked file e (p .offset)) → HandsOut file p (event e (p .offset))
+unfolding askedOf meaningAt
+hands-out file short p e m d = record {
+  e = e;
+  is = refl;
+  means = m;
+  gives = λ h scratch room. rw (le-ltb maxLength (length file) short, ← m) (gives-by file e (p .offset) h scratch (eventAsked file e (p .offset)) d (rw m room));
+}
+
+-- what they mean
+pub told-all : (file : List ℕ) (ps : List Put) (xs : List Said) → HandOut file ps xs → map (told file) xs ≡ toldOf ps
+unfolding told
+told-all file [] [] h = refl
+told-all file [] (x ∷ xs) h = absurd h
+told-all file (p ∷ ps) [] h = absurd h
+told-all file (p ∷ ps) (x ∷ xs) h = rw (h .0 .is, told, h .0 .means, told-all file ps xs (h .1))

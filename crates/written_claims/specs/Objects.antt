@@ -1,0 +1,144 @@
+-- What the written file's bytes say of each number below the count: a scalar, or a container with its references.
+use mathlib.Core.Bool.{true, false, true≢false}
+use mathlib.Core.List.{List, [], _∷_, map}
+use mathlib.Core.Path.{_≡_, refl, sym, ap, _∙_}
+use Prim.Native.Nat.{ℕ, suc, _≤_, _<_}
+use native.Mathlib.Omega.{arith}
+use borrow.Author.Tests.{le-ltb}
+use lib.ListN.{length, getD, drop, length-map}
+use Rattle.number.specs.Width.{bytesIn}
+use Rattle.event.specs.Format.{maxOpen}
+use Rattle.reader.specs.Layout.{lookOf, dueOf, sourceOf}
+use Rattle.reader.specs.Machine.{Source, Shape, container}
+use Rattle.reader.specs.Machine as machine
+use Rattle.reader.specs.declared.layout.Due.the-variants.{Member}
+use Rattle.reader.specs.declared.layout.Layout.{Layout}
+use Rattle.reader.specs.declared.state.Frame.{Frame}
+use Rattle.written.specs.EmissionLaws.{numbered-written}
+use Rattle.written.specs.File.{refSize, bytesAt, placeOf, tableAt, fileOf}
+use Rattle.written.specs.FirstLaws.{Stands, emission-told}
+use Rattle.written.specs.Graph.{Scalar, Kind, arr, dic, Piece, scalar, start, end, Name, val, box, kids, order, number, objectOf}
+use Rattle.written.specs.NameLaws.{In, drop-next, drop-lt}
+use Rattle.written.specs.NumberLaws.{order-in, number-at}
+use Rattle.written.specs.Shape.{inside, nameOf, isEnd}
+use Rattle.written.specs.Weigh.{counted}
+use Rattle.written.specs.WholeLaws.{Parity, whole-parity}
+use Rattle.written_claims.specs.FileShown.{fine, file-shows}
+use Rattle.written_claims.specs.Filled.{shapeOf}
+use Rattle.written_claims.specs.Back.{Known, eventBy, due-member, look-box, look-val}
+use Rattle.written_claims.specs.Laid.{layoutOf, object-there}
+use Rattle.written_claims.specs.Members.{membersOf, membersAt}
+use Rattle.written_claims.specs.ObjectLaws.{object-pos}
+use Rattle.written_claims.specs.References.{referred, referredFrom, manyOf, referencesIn, references}
+use Rattle.written_claims.specs.Writable.{isVal, boxIn, Sound}
+
+-- a container that has a number begins at its place
+pub record Begins (es : List Piece) (p : ℕ) : Type 0 where
+  pub kind : Kind
+  pub post : List Piece
+  pub there : drop p es ≡ start kind ∷ post
+
+pub box-begins : (es : List Piece) (p : ℕ) → In (box p) (order es) → Begins es p
+box-begins es p h = go (t .1 .piece) (t .1 .there) (t .1 .named) (t .1 .opens)
+  where
+    t : (i : ℕ) × Stands es i (box p)
+    t = emission-told es (box p) (numbered-written es (box p) h)
+
+    go : (x : Piece) → drop (t .0) es ≡ x ∷ t .1 .post → nameOf (t .0) x ≡ box p → isEnd x ≡ false → Begins es p
+    go (scalar s) d n o = absurd (true≢false (ap isVal n))
+    go (start k) d n o = record { kind = k; post = t .1 .post; there = ap (λ (i : ℕ). drop i es) (sym (ap boxIn n)) ∙ d }
+    go end d n o = absurd (true≢false o)
+
+-- a number below the count is a scalar's or a container's
+pub data Numbered (es : List Piece) (i : ℕ) : Type 0 where
+  value : (s : Scalar) → In (val s) (order es) → number es (val s) ≡ i → Numbered es i
+  holder : (p : ℕ) → In (box p) (order es) → number es (box p) ≡ i → Begins es p → Numbered es i
+
+pub numbered : (es : List Piece) (i : ℕ) → i < length (order es) → Numbered es i
+numbered es i h = go (getD (order es) i (box 0)) (order-in es i (box 0) h) (number-at es i (box 0) h)
+  where
+    go : (x : Name) → In x (order es) → number es x ≡ i → Numbered es i
+    go (val s) n e = value s n e
+    go (box p) n e = holder p n e (box-begins es p n)
+
+-- a container's members are as many as its length says
+many-members : (k : Kind) (n : ℕ) → Parity (inside k) n → manyOf (shapeOf k) (counted k n) ≡ n
+unfolding manyOf counted
+many-members arr n v = refl
+many-members dic n v = omega (arith, v)
+
+module _ (es : List Piece) (g : Sound es) where
+  abbrev file : List ℕ
+  file = fileOf es
+
+  abbrev l : Layout
+  l = layoutOf es
+
+  abbrev src : Source
+  src = sourceOf file l
+
+  pub look-value : (s : Scalar) → In (val s) (order es) → lookOf file l (number es (val s)) ≡ machine.scalar (eventBy es src s) (placeOf es (val s))
+  unfolding sourceOf
+  look-value s h = look-val es file src (placeOf es) (file-shows es g) s h
+
+  module _ (p : ℕ) (h : In (box p) (order es)) (b : Begins es p) where
+    abbrev ms : List Name
+    ms = kids 0 (suc p) (b .post)
+
+    abbrev long : ℕ
+    long = counted (b .kind) (length ms)
+
+    even : Parity (inside (b .kind)) (length ms)
+    even = whole-parity maxOpen es p (suc p) (b .kind) (b .post) (g .one) (b .there)
+
+    pub look-holder : lookOf file l (number es (box p)) ≡ container (shapeOf (b .kind)) long (placeOf es (box p))
+    unfolding sourceOf
+    look-holder = look-box es file src (placeOf es) (file-shows es g) p (b .kind) (b .post) (b .there) h even
+
+    abbrev frameAt : ℕ → Frame
+    frameAt i = record { object = number es (box p); position = i; length = long }
+
+    known : (i : ℕ) (r : List Name) → drop i ms ≡ r → i ≤ length ms → Known es file src (placeOf es) (file-shows es g) (suc p) p r (frameAt i)
+    known i r e u = record { kind = b .kind; post = b .post; before = omega arith; begins = b .there; named = h; obj-is = refl; len-is = refl; even = even; upto = u; rest = e }
+
+    -- the members are due in turn
+    all-due : (r : List Name) (i : ℕ) → drop i ms ≡ r → referredFrom file l (number es (box p)) long i (length r) ≡ map (number es) r
+    unfolding referredFrom referred sourceOf
+    all-due [] i e = refl
+    all-due (x ∷ r) i e =
+        let lt = drop-lt ms i x r e in
+        let d : dueOf file l (frameAt i) ≡ Member (number es x) = due-member es file src (placeOf es) (file-shows es g) (suc p) p x r (frameAt i) (known i (x ∷ r) e (omega arith)) in
+        rw d (ap (λ (t : List ℕ). number es x ∷ t) (all-due r (suc i) (drop-next ms i x r e)))
+
+    pub references-holder : references file l (number es (box p)) ≡ map (number es) (membersOf es (box p))
+    unfolding references referencesIn membersOf membersAt
+    references-holder = rw (look-holder, b .there, many-members (b .kind) (length ms) even) (all-due ms 0 refl)
+
+    -- as many as its length says
+    pub references-many : (s : Shape) (k at : ℕ) → lookOf file l (number es (box p)) ≡ container s k at → length (references file l (number es (box p))) ≡ manyOf s k
+    unfolding membersOf membersAt
+    references-many s k at look =
+        let t : container (shapeOf (b .kind)) long (placeOf es (box p)) ≡ container s k at = sym look-holder ∙ look in
+        let u : shapeOf (b .kind) ≡ s = cc in
+        let v : long ≡ k = cc in
+        rw (references-holder, length-map, b .there, ← u, ← v) (sym (many-members (b .kind) (length ms) even))
+
+  references-value : (s : Scalar) → In (val s) (order es) → references file l (number es (val s)) ≡ []
+  unfolding references referencesIn
+  references-value s h = rw (look-value s h)
+
+  -- THE REFERENCES of an object are the numbers of its members, in order
+  pub references-are : (x : Name) → In x (order es) → references file l (number es x) ≡ map (number es) (membersOf es x)
+  unfolding membersOf
+  references-are (val s) h = references-value s h
+  references-are (box p) h = references-holder p h (box-begins es p h)
+
+  -- a number at or above the count has none
+  pub references-none : (i : ℕ) → length (order es) ≤ i → references file l i ≡ []
+  unfolding references referencesIn lookOf
+  references-none i h = rw (le-ltb i (length (order es)) h)
+
+  -- an object's offset is below the table
+  pub object-below : (x : Name) → In x (order es) → placeOf es x < tableAt es
+  unfolding bytesAt
+  object-below x h = omega (arith, object-there es x h .ends, object-pos (refSize es) (bytesIn (layoutOf es .refs)) (objectOf es x) (fine es g x h))
