@@ -32,6 +32,11 @@ pub mod HandsOut
 pub mod HandsOutLaws
 pub mod Whole
 pub mod ReadWhole
+pub mod Same
 pub mod Examples
 pub mod Writes
 pub mod Good
+pub mod Verdict
+pub mod VerdictLaws
+pub mod SameAnswers
+pub mod SameExamples
