@@ -1,21 +1,20 @@
 -- A tape that the check finds whole is ready for the writer: its events are one value as the written file's definition sees them.
-use mathlib.Core.Bool.{Bool, true, false, cond, false≢true, true≢false}
+use mathlib.Core.Bool.{Bool, true, false, cond, false≢true}
 use mathlib.Core.List.{List, [], _∷_, map}
 use mathlib.Core.Path.{_≡_, refl, sym, ap, _∙_}
-use Prim.Native.Nat.{ℕ, suc, _<_, _≤_}
+use Prim.Native.Nat.{ℕ, suc}
 use native.Mathlib.Omega.{arith}
-use borrow.Author.Tests.{lt-ltb, leb-true, leb-false}
-use lib.Dec.{ltb, leb}
+use borrow.Author.Tests.{lt-ltb, leb-false}
+use lib.Dec.{leb}
 use lib.ListN.{length}
 use Rattle.number.specs.BeLaws.{Bytes}
-use Rattle.event.specs.Format.{maxLength, maxOpen}
+use Rattle.event.specs.Format.{maxOpen}
 use Rattle.event.specs.Meaning.{Meaning, array, dictionary, close, boolean, bytes, date, integer, real, text, uid}
 use Rattle.tape.specs.Code.{bytesFor}
-use Rattle.tape.specs.Events.{eventsOf}
 use Rattle.tape.specs.Events as events
 use Rattle.grammar.specs.Check.{Move, onto, barred, moveOf, checkOf}
 use Rattle.grammar.specs.Fits.{fitsFrom}
-use Rattle.grammar.specs.FitsLaws.{Whole, check-whole, fits-move}
+use Rattle.grammar.specs.FitsLaws.{check-whole, fits-move}
 use Rattle.grammar.specs.Said as said
 use Rattle.grammar.specs.Turn.{isNothing, afterOf, unexpectedOf, unlessKey, endTurn, textTurn, turnOf}
 use Rattle.grammar.specs.TurnLaws.{turn-trails}
@@ -25,10 +24,9 @@ use Rattle.grammar.specs.declared.answer.Refusal.{Refusal}
 use Rattle.grammar.specs.declared.answer.Refusal.the-variants.{TooDeep}
 use Rattle.grammar.specs.declared.turn.Due.{Due}
 use Rattle.grammar.specs.declared.turn.Due.the-variants.{Root, Element, Key, Value, Nothing}
-use Rattle.grammar.specs.declared.turn.Turn.{Turn}
-use Rattle.grammar.specs.declared.turn.Turn.the-variants.{Pass, Open, Close, Stop}
-use Rattle.written.specs.Graph.{Scalar, Kind, arr, dic, Piece, scalar, start, end, pieceOf}
-use Rattle.written.specs.Shape.{isText, later, inside, takes, opens, closes, fits, whole}
+use Rattle.grammar.specs.declared.turn.Turn.the-variants.{Pass, Open}
+use Rattle.written.specs.Graph.{Scalar, Kind, arr, dic, scalar, start, end, pieceOf}
+use Rattle.written.specs.Shape.{isText, later, inside, opens, fits, whole}
 use Rattle.written.specs.Shape as shape
 use Rattle.writer.specs.Ready.{meantBy, meaningsIn, piecesIn, Ready}
 

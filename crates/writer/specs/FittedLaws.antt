@@ -1,17 +1,16 @@
 -- What the writer answers and leaves, where the check of the tape, the words, the file's length and the room are known.
-use mathlib.Core.Bool.{Bool, true, false, cond}
-use mathlib.Core.List.{List, []}
-use mathlib.Core.Path.{_≡_, refl, sym, ap, _∙_}
+use mathlib.Core.List.{List}
+use mathlib.Core.Path.{_≡_, refl}
 use Prim.Native.Nat.{ℕ, _*_, _≤_, _<_}
 use borrow.Author.Tests.{lt-ltb, le-ltb}
 use lib.ListN.{length}
 use lib.Seq.{sets}
 use Rattle.event.specs.Format.{maxLength}
 use Rattle.grammar.specs.Check.{checkOf}
-use Rattle.grammar.specs.Said.{numberOf, kindsOf, refusedAt, whole}
+use Rattle.grammar.specs.Said.{refusedAt, whole}
 use Rattle.grammar.specs.declared.answer.Refusal.{Refusal}
 use Rattle.written.specs.File.{fileOf, fileFor}
-use Rattle.writer.specs.Ready.{meaningsIn, piecesIn}
+use Rattle.writer.specs.Ready.{piecesIn}
 use Rattle.writer.specs.Write.{writtenSaid, wordsFor, fittedOf, byCheck, writeOf, outputBy, outputOf, usedBy, usedOf}
 use Rattle.writer.specs.declared.answer.Written.the-variants.{Length, Refused, NoRoomForWork, NoRoomForOutput, FileTooLong}
 

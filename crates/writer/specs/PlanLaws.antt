@@ -1,15 +1,15 @@
 -- The sums along the tape, and the numbers given, make the plan of the file.
 use mathlib.Core.List.{List}
-use mathlib.Core.Path.{_≡_, refl, sym, ap, ap₂, _∙_}
+use mathlib.Core.Path.{_≡_, ap, ap₂, _∙_}
 use Prim.Native.Nat.{ℕ, _+_, _-_, _*_, _≤_, _<_, _^_}
 use native.Mathlib.Omega.{arith}
 use lib.ListN.{length}
 use Rattle.number.specs.Size.{sizeOf}
 use Rattle.number.specs.SizeLaws.{Sized, one, two, four, eight, sized}
 use Rattle.event.specs.Format.{maxOpen}
-use Rattle.written.specs.File.{refSize, body, tableAt, offsetSize, fileOf}
+use Rattle.written.specs.File.{refSize, tableAt, offsetSize}
 use Rattle.written.specs.FileLaws.{file-length, order-few, order-some}
-use Rattle.written.specs.Graph.{Piece, order}
+use Rattle.written.specs.Graph.{order}
 use Rattle.written.specs.Weigh.{weightFrom, membersFrom}
 use Rattle.written.specs.WeighLaws.{body-length}
 use Rattle.writer.specs.Columns.{Indexed}

@@ -1,10 +1,10 @@
 -- The code's answer is fixed by what it says.
-use mathlib.Core.List.{List, []}
-use mathlib.Core.Path.{_≡_, refl, sym, ap, ap₂, _∙_}
+use mathlib.Core.List.{List}
+use mathlib.Core.Path.{_≡_, refl, sym, ap}
 use Prim.Native.Nat.{ℕ, _<_}
 use native.Mathlib.Omega.{arith}
 use lib.Dec.{lit<}
-use Rattle.grammar.specs.Said.{numberOf, kindsOf, refusedAt, checkedSaid}
+use Rattle.grammar.specs.Said.{numberOf, refusedAt, checkedSaid}
 use Rattle.grammar.specs.Said as check
 use Rattle.grammar.specs.SaidLaws.{checkedSaid-one}
 use Rattle.grammar.specs.declared.answer.Checked.{Checked}

@@ -1,10 +1,9 @@
 -- `write_file`: what the check says, then whether the words are enough, then what `write_events` answers of the part that it is lent.
-use mathlib.Core.List.{List}
 use mathlib.Core.Path.{_≡_, refl, sym, ap, _∙_}
-use Prim.Native.Nat.{ℕ, _*_, _≤_, _<_}
+use Prim.Native.Nat.{ℕ, _*_, _≤_}
 use native.Mathlib.Omega.{arith}
 use borrow.Author.Needs.{needs}
-use lib.ListN.{length, take}
+use lib.ListN.{length}
 use lib.Seq.{drop-at, length-take-le}
 use Rattle.number.specs.BeLaws.{bytes-of}
 use Rattle.grammar.specs.Check.{checkOf}

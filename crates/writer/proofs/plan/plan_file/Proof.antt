@@ -1,7 +1,4 @@
 -- `plan_file`: each pass leaves what the next one asks for, and the sums make the plan.
-use mathlib.Core.List.{List}
-use mathlib.Core.Path.{_≡_, sym, _∙_}
-use Prim.Native.Nat.{ℕ, _≤_, _<_}
 use native.Mathlib.Omega.{arith}
 use borrow.Author.Needs.{needs}
 use Rattle.writer.specs.MeasureLaws.{weight-le, members-le}

@@ -1,7 +1,7 @@
 -- `planned` computes the plan; no sum passes 64 bits, since sizes are 8 at most.
 use native.Mathlib.Omega.{arith}
 use borrow.Author.Needs.{needs}
-use mathlib.Core.Path.{refl, ap, sym}
+use mathlib.Core.Path.{refl, ap}
 use Prim.Native.Nat.{ℕ, _+_, _*_, _≤_}
 use Rattle.writer.specs.PlanLaws.{times-size}
 use Rattle.writer.proofs.plan.planned.Statement.{statement}
