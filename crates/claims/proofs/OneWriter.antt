@@ -2,7 +2,11 @@
 use mathlib.Core.List.{List}
 use mathlib.Core.Path.{_≡_, refl, sym, _∙_}
 use Prim.Native.Nat.{ℕ}
+use borrow.Fn.Kinds.{Dens, endedOf, resT}
+use contract.Lifetimes.{Lfts}
 use denote.Ref.{now}
+use denote.Triple.Clauses.{AtExit}
+use lib.ListN.{length, drop}
 use Rattle.grammar.specs.SaidLaws.{checkedSaid-one}
 use Rattle.event.proofs.limits.max_length.Kinds as limit-length-kinds
 use Rattle.event.proofs.limits.max_length.Reads as limit-length-reads
@@ -36,6 +40,7 @@ use Rattle.exports.proofs.write.zm_write.Kinds as zm-write-kinds
 use Rattle.exports.proofs.write.zm_write.Reads as zm-write-reads
 use Rattle.writer.proofs.write_file.Kinds as write-file-kinds
 use Rattle.writer.proofs.write_file.Reads as write-file-reads
+use Rattle.writer.specs.Write.{usedOf}
 use Rattle.writer.specs.WriteLaws.{writtenSaid-one}
 use Rattle.claims.proofs.One.{One}
 
@@ -81,9 +86,16 @@ put-head-one κs a x y e f p q = (p .0 ∙ sym (q .0), p .1 ∙ sym (q .1))
 put-scalar-one : One 2 put-scalar-kinds.ps put-scalar-kinds.r put-scalar-reads.Post (List ℕ) (λ κs e. now (e .1 .1 .1 .0))
 put-scalar-one κs a x y e f p q = (p .0 ∙ sym (q .0), p .1 ∙ sym (q .1))
 
--- of the words, the first six for each event are left open (docs/EXCEPTIONS.md)
+-- the words stand below: their first six for each event are left open (docs/EXCEPTIONS.md)
 write-file-one : One 3 write-file-kinds.ps write-file-kinds.r write-file-reads.Post (List ℕ) (λ κs e. now (e .1 .1 .0))
 write-file-one κs a x y e f p q = (writtenSaid-one x y (p .0 ∙ sym (q .0)), p .1 .0 ∙ sym (q .1 .0))
+
+-- the words behind those that the definition lets change are the same after two answers
+write-file-words :
+    (κs : Lfts 3) (a : Dens κs write-file-kinds.ps) (x y : resT write-file-kinds.r κs .Denot) (e f : AtExit (endedOf 3 write-file-kinds.ps write-file-kinds.r) κs)
+    → write-file-reads.Post κs a x e → write-file-reads.Post κs a y f
+    → drop (usedOf (now (a .0)) (length (now (a .1 .0)))) (now (e .1 .0)) ≡ drop (usedOf (now (a .0)) (length (now (a .1 .0)))) (now (f .1 .0))
+write-file-words κs a x y e f p q = p .1 .1 ∙ sym (q .1 .1)
 
 zm-write-one : One 6 zm-write-kinds.ps zm-write-kinds.r zm-write-reads.Post (record { value : ℕ; expected : ℕ; found : ℕ; out : List ℕ }) (λ κs e. record { value = now (e .1 .1 .1 .0); expected = now (e .1 .1 .1 .1 .0); found = now (e .1 .1 .1 .1 .1 .0); out = now (e .1 .1 .0) })
 zm-write-one κs a x y e f p q = (
