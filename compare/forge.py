@@ -15,8 +15,9 @@ import model
 from generator import read_families
 
 FAMILIES = ["tree", "graphs", "shared", "recursive", "depth", "distinct", "offsets", "rooms", "lengths", "scalars", "utf16", "worked"]
-KINDS = ["data", "text"]  # 0 and 1; any other number is another event
 FIELD_BITS = [1, 32, 8, 8, 32, 32, 64, 64]
+NAMES = {kind: name for name, kind in model.KINDS.items()}
+MARKERS = [0x08, 0x09, 0x10, 0x11, 0x12, 0x13, 0x14, 0x22, 0x23, 0x33, 0x40, 0x50, 0x60, 0x80, 0xA0, 0xD0]  # from 40 on 16 at a time
 HELD = [0, 1, 2, 63, 64, 65, 1 << 32, (1 << 64) - 1]
 
 
@@ -94,14 +95,50 @@ def state_input(rng):
     return file, state
 
 
+def record_there(rng, file, offset):
+    """A kind and a value of a record that reading at an offset gives; any where it gives none."""
+    if offset < len(file) - 32:
+        if file[offset] >> 4 in (0xA, 0xD):
+            name = rng.choice(["end", "sized array" if file[offset] >> 4 == 0xA else "sized dict"])
+            return model.KINDS[name], 0 if name == "end" else model.head(file, offset)[0]
+        try:
+            found = model.object_at(file, 1, offset)
+        except model.Refused:
+            found = None
+        if found and found[0] == "scalar":
+            word, _, number = found[1].partition(" ")
+            if word == "int":
+                number = int(number)
+                name = "signed" if number < 0 or number < 1 << 63 and rng.random() < 0.5 else "unsigned"
+                return model.KINDS[name], number % (1 << 64)
+            if word in ("real", "date"):
+                name = "nan" if word == "real" and rng.random() < 0.3 else word
+                return model.KINDS[name], int(number, 16)
+            return model.KINDS[word], int(number or 0)
+        if found:
+            return model.KINDS[found[0]], 0
+    return rng.randrange(1, 16), rng.choice([0, 1, 3, rng.getrandbits(64)])
+
+
 def record_input(rng):
+    """A file, and a record that it gives, or nearly: another value, another kind, another offset, or another file."""
     file = drawn_file(rng)
-    if rng.random() < 0.4:
+    places = collections.defaultdict(list)
+    for at, byte in enumerate(file[: max(len(file) - 32, 0)]):
+        places[byte if byte < 0x40 else byte & 0xF0].append(at)
+    marked = [places[marker] for marker in MARKERS if marker in places]
+    offset = rng.choice(rng.choice(marked)) if marked and rng.random() < 0.85 else near(rng, len(file) - 32 if len(file) > 32 else 8, rng.choice([8, 32, 64]))
+    kind, value = record_there(rng, file, offset)
+    pick = rng.random()
+    if pick < 0.15:
+        value = near(rng, value, 64)
+    elif pick < 0.3:
+        kind = rng.randrange(1, 16)
+    elif pick < 0.4:
+        offset = near(rng, offset, 32)
+    elif pick < 0.6:
         file = other_file(rng, file)
-    markers = [at for at, byte in enumerate(file) if byte >> 4 in (4, 5, 6)]
-    offset = rng.choice(markers) if markers and rng.random() < 0.8 else near(rng, len(file) - 32 if len(file) > 32 else 8, rng.choice([8, 32, 64]))
-    kind = rng.choice([0, 1, 1, 1, rng.randrange(10)])
-    return file, rng.choice([0, 1, 2, 3, 4, 5, 6, 8, 12, 40, 300]), kind, offset
+    return file, rng.choice([0, 1, 2, 3, 4, 5, 6, 8, 12, 40, 300]), kind, value, offset
 
 
 def shown(state):
@@ -120,16 +157,18 @@ def cases(seed, count):
             line, after = model.step(file, state)
             yield f"S {file.hex()} {shown(state)}", [line, f"state {shown(after)}"], line
         else:
-            file, length, kind, offset = record_input(rng)
+            file, length, kind, value, offset = record_input(rng)
             scratch = b"\xaa" * length
-            line, left, part = model.request(file, scratch, KINDS[kind] if kind < 2 else None, offset)
-            yield f"R {file.hex()} {length} {kind} {offset}", [line, model.with_bytes("data", left), model.with_bytes("data", part)], f"request {line}"
+            line, left, part = model.request(file, scratch, kind, value, offset)
+            yield f"R {file.hex()} {length} {kind} {value} {offset}", [line, model.with_bytes("data", left), model.with_bytes("data", part)], f"request {NAMES[kind]}: {line}"
 
 
 def sort_of(line):
+    if line.startswith("request"):
+        name, _, answer = line.partition(": ")
+        words = answer.split()
+        return f"{name} {words[0]} {words[1]}" if words[0] == "refused" else f"{name} length"
     words = line.split()
-    if words[0] == "request":
-        return f"request {words[1]} {words[2]}" if words[1] == "refused" else "request length"
     return f"refused {words[1]}" if words[0] == "refused" else words[2] if words[0] == "at" else words[0]
 
 

@@ -4,12 +4,19 @@ Written from document 01 ("Reader rules", "Refusal numbers") and the project's d
 nothing with the proved code. A state is a tuple:
 
     (fresh, length, offsets, refs, count, table, place, held, frames)   frames: 64 triples (object, position, length)
+
+A record is a kind, a value and an offset. A signed integer's value is its 64 bits, a real's and a date's too.
 """
 import struct
 
 MAX_LENGTH = 2_147_483_648
 MAX_OPEN = 64
 SIZES = (1, 2, 3, 4, 8)
+# The tape's kinds, but that 4 is an integer by its 64 bits; and a NaN by any bits.
+KINDS = {
+    "false": 1, "true": 2, "unsigned": 3, "signed": 4, "real": 5, "date": 6, "uid": 7, "data": 8, "text": 9,
+    "array": 10, "sized array": 11, "dict": 12, "sized dict": 13, "end": 14, "nan": 15,
+}  # fmt: skip
 NO_FRAME = (0, 0, 0)
 FRESH = (1, 0, 0, 0, 0, 0, 0, 0, (NO_FRAME,) * MAX_OPEN)
 ENDED = (0,) + FRESH[1:]
@@ -244,20 +251,51 @@ def step(file, state):
         return "refused 17 at 0", state
 
 
-def request(file, scratch, kind, offset):
+def said(kind, value):
+    """A record without bytes, that is no container's, as a listing says it."""
+    if kind in (KINDS["false"], KINDS["true"]):
+        return "true" if kind == KINDS["true"] else "false"
+    if kind == KINDS["unsigned"]:
+        return f"int {value}"
+    if kind == KINDS["signed"]:
+        return f"int {value - (1 << 64) if value >> 63 else value}"
+    if kind in (KINDS["real"], KINDS["nan"]):
+        return f"real {value:016x}"
+    return f"date {value:016x}" if kind == KINDS["date"] else f"uid {value}"
+
+
+def gives(file, kind, value, offset):
+    """Whether a file gives a record without bytes: reading at its offset says the same; a container of its kind and length
+    stands there for a start, any container for an end. A container's room is not measured, as it isn't for an open one."""
+    if kind in (KINDS["array"], KINDS["dict"]):
+        return False
+    if kind in (KINDS["sized array"], KINDS["sized dict"], KINDS["end"]):
+        high = file[offset] >> 4
+        if high not in (0xA, 0xD):
+            return False
+        return kind == KINDS["end"] or (high == 0xA) == (kind == KINDS["sized array"]) and head(file, offset)[0] == value
+    try:
+        return object_at(file, 1, offset) == ("scalar", said(kind, value))
+    except Refused:
+        return False
+
+
+def request(file, scratch, kind, value, offset):
     """The two calls of a text request: (the first's line, the scratch afterwards, the second's part)."""
     refused = lambda number, place: (f"refused {number} at {place}", scratch, b"")
     if len(file) > MAX_LENGTH:
         return refused(1, 0)
-    if kind not in ("data", "text") or offset >= len(file) - 32:
+    if offset >= len(file) - 32:
         return refused(17, 0)
+    if kind not in (KINDS["data"], KINDS["text"]):
+        return ("length 0", scratch, b"") if gives(file, kind, value, offset) else refused(17, 0)
     try:
         found = object_at(file, 1, offset)
     except Refused:
         return refused(17, 0)
-    if found[0] != kind:
+    if found[0] != ("data" if kind == KINDS["data"] else "text"):
         return refused(17, 0)
-    if kind == "data" or not found[2]:
+    if found[0] == "data" or not found[2]:
         return f"length {len(found[1])}", scratch, found[1]
     text = found[1]
     if len(scratch) < len(text):

@@ -8,9 +8,11 @@ static const char *lines[] = {"", "false", "true", "int %llu", "int -%llu", "rea
 
 int main(void) {
     uint64_t held, place, next, value, start, length;
+    uint32_t marker;
     size_t n = fread(file, 1, sizeof file, stdin);
     if (getchar() != EOF) return puts("more than 1 MB"), 1;
-    uint32_t ending = zm_transcribe(file, n, scratch, sizeof scratch, tape, sizeof tape, UINT64_MAX, &held, &place);
+    uint32_t ending = zm_transcribe(file, n, scratch, sizeof scratch, tape, sizeof tape, UINT64_MAX, &held, &place,
+                                    &marker);
     puts("events");
     for (uint64_t at = 0; at < held; at = next) {
         next = zm_tape_step(tape, held, at, &value, &start, &length); /* an event has a value or a length, or neither */

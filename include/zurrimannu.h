@@ -79,13 +79,13 @@ enum {
 /*
  * Reads a file and puts its events on a tape, at most `budget` of them. Answers ZM_ENDED, ZM_STOPPED or the number of a refusal:
  * of the reader, or 27 where an event doesn't fit on the tape. `*held` is then how many bytes of the tape are held, also where
- * something is refused behind them; `*place` the place of the refusal, else 0.
+ * something is refused behind them; `*place` the place of the refusal, else 0; `*marker` the byte that refusal 10 is about, else 0.
  *
  * `scratch` is room for one text of the file that is UTF-16, changed to UTF-8; 16 says that it is too short. Three bytes for two of
  * the file are always enough.
  */
 uint32_t zm_transcribe(const uint8_t *file, size_t file_length, uint8_t *scratch, size_t scratch_length, uint8_t *tape,
-                       size_t tape_length, uint64_t budget, uint64_t *held, uint64_t *place);
+                       size_t tape_length, uint64_t budget, uint64_t *held, uint64_t *place, uint32_t *marker);
 
 /* --- the event tape -------------------------------------------------------------------------------- */
 

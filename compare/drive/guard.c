@@ -83,6 +83,7 @@ static unsigned long inputs, calls, steps, no_text, no_tape;
 struct answer {
     uint32_t ending;
     uint64_t held, place;
+    uint32_t marker;
 };
 
 // One call with so much memory. Whatever else the regions hold must be as it was.
@@ -90,9 +91,9 @@ static struct answer call(const uint8_t *bytes, size_t length, size_t scratch_ro
     struct part file = part_with(files, bytes, length, at_end);
     struct part scratch = part_of(scratches, scratch_room, at_end);
     struct part tape = part_of(tapes, tape_room, at_end);
-    struct answer a = {0, 0, 0};
+    struct answer a = {0, 0, 0, 0};
     a.ending = zm_transcribe(file.start, file.length, scratch.start, scratch.length, tape.start, tape.length,
-                             BUDGET, &a.held, &a.place);
+                             BUDGET, &a.held, &a.place, &a.marker);
     calls++;
     if (!holds(file, bytes) || !is_kept(scratch) || !is_kept(tape))
         stop("memory changed that was not lent");
@@ -133,7 +134,7 @@ static void read_input(const uint8_t *bytes, size_t length) {
         if (all.ending == ZM_NO_ROOM_FOR_TAPE || all.ending == ZM_NO_ROOM_FOR_TEXT)
             stop("a tape or a text is larger than its region");
         struct answer exact = call(bytes, length, room, all.held, at_end);
-        if (exact.ending != all.ending || exact.held != all.held || exact.place != all.place)
+        if (exact.ending != all.ending || exact.held != all.held || exact.place != all.place || exact.marker != all.marker)
             stop("a tape that just fits gives another answer");
         if (at_end)
             walk(exact.held);

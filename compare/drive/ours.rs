@@ -11,6 +11,7 @@ extern "C" {
         budget: u64,
         held: *mut u64,
         place: *mut u64,
+        marker: *mut u32,
     ) -> u32;
     fn zm_tape_step(
         tape: *const u8,
@@ -46,18 +47,19 @@ extern "C" {
 pub const ENDED: u32 = 0;
 pub const STOPPED: u32 = 255;
 
-/// How a transcript ends, how many bytes of the tape are held, and the place of a refusal.
+/// How a transcript ends, how many bytes of the tape are held, the place of a refusal and the marker of 10.
 #[derive(Clone, Copy, Debug)]
 pub struct Transcript {
     pub ending: u32,
     pub held: usize,
     pub place: u64,
+    pub marker: u32,
 }
 
 // The functions read and write nothing but the lent memory, whose borrows outlast the calls.
 
 pub fn transcribe(file: &[u8], scratch: &mut [u8], tape: &mut [u8], budget: u64) -> Transcript {
-    let (mut held, mut place) = (u64::MAX, u64::MAX);
+    let (mut held, mut place, mut marker) = (u64::MAX, u64::MAX, u32::MAX);
     let ending = unsafe {
         zm_transcribe(
             file.as_ptr(),
@@ -69,6 +71,7 @@ pub fn transcribe(file: &[u8], scratch: &mut [u8], tape: &mut [u8], budget: u64)
             budget,
             &mut held,
             &mut place,
+            &mut marker,
         )
     };
     let held = held as usize;
@@ -76,6 +79,7 @@ pub fn transcribe(file: &[u8], scratch: &mut [u8], tape: &mut [u8], budget: u64)
         ending,
         held,
         place,
+        marker,
     }
 }
 

@@ -225,13 +225,15 @@ impl Judge {
                     (tape::Item::Date(_), _) => return Ok(Outcome::Date),
                     (item, _) => return Err(format!("event {item:?}, the crate's a date")),
                 },
-                Answer::Depth => return ends(&got, at, 15, None).map(|_| Outcome::Depth),
-                Answer::End => return ends(&got, at, ours::ENDED, Some(0)),
-                Answer::Refused(number, place) => return ends(&got, at, number.into(), place),
+                Answer::Depth => return ends(&got, at, 15, 0, None).map(|_| Outcome::Depth),
+                Answer::End => return ends(&got, at, ours::ENDED, 0, Some(0)),
+                Answer::Refused(number, marker, place) => {
+                    return ends(&got, at, number.into(), marker.into(), place)
+                }
                 Answer::Unforeseen(what) => return Err(format!("the crate: {what}")),
             }
         }
-        ends(&got, at, ours::STOPPED, Some(0))
+        ends(&got, at, ours::STOPPED, 0, Some(0))
     }
 
     fn differs(&mut self, family: &str, file: &[u8], difference: String) {
@@ -313,14 +315,18 @@ fn ends(
     got: &ours::Transcript,
     at: usize,
     number: u32,
+    marker: u32,
     place: Option<u64>,
 ) -> Result<Outcome, String> {
-    let right = got.held == at && got.ending == number && place.is_none_or(|p| p == got.place);
+    let right = got.held == at
+        && got.ending == number
+        && got.marker == marker
+        && place.is_none_or(|p| p == got.place);
     let refused = !matches!(number, ours::ENDED | ours::STOPPED);
     match right {
         true => Ok(Outcome::Ended(number as u8, refused && place.is_some())),
         false => Err(format!(
-            "{got:?}, the crate's {number} at {place:?}, tape {at}"
+            "{got:?}, the crate's {number} at {place:?} with {marker}, tape {at}"
         )),
     }
 }

@@ -16,8 +16,8 @@ const MAX_OPEN: usize = 64;
 pub enum Answer {
     Event(Event<'static>),
     End,
-    /// Document 01's number, and the place where it is compared.
-    Refused(u8, Option<u64>),
+    /// Document 01's number, the marker of 10 or 0, and the place where it is compared.
+    Refused(u8, u8, Option<u64>),
     /// A date, or one that the crate refuses: nothing is compared from here on.
     Date,
     /// The 65th open container, which document 01 refuses.
@@ -81,8 +81,9 @@ impl<'a> Watched<'a> {
     fn refusal(&self, refusal: Refusal) -> Answer {
         match refusal {
             Refusal::Date => Answer::Date,
-            Refusal::Reader { number, .. } if self.from_cache => Answer::Refused(number, None),
-            Refusal::Reader { number, place } => Answer::Refused(number, Some(place)),
+            Refusal::Reader { number, marker, place } => {
+                Answer::Refused(number, marker, (!self.from_cache).then_some(place))
+            }
             other => Answer::Unforeseen(format!("{other:?}")),
         }
     }

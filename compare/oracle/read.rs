@@ -135,7 +135,7 @@ impl<'a> Watched<'a> {
             Refusal::Reader { number, .. } if self.from_cache => {
                 Answer::Last(format!("refused {number} at -"))
             }
-            Refusal::Reader { number, place } => {
+            Refusal::Reader { number, place, .. } => {
                 Answer::Last(format!("refused {number} at {place}"))
             }
             other => panic!("{other:?}"),

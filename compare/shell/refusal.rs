@@ -5,8 +5,8 @@ use crate::error::{Error, ErrorKind};
 /// What an error of the binary reader or writer is to the comparison.
 #[derive(Debug)]
 pub enum Refusal {
-    /// A refusal of the reader: document 01's number, and the crate's place.
-    Reader { number: u8, place: u64 },
+    /// A refusal of the reader: document 01's number, the crate's place, and the marker that 10 carries, else 0.
+    Reader { number: u8, place: u64, marker: u8 },
     /// 21, with the crate's names of what was expected and what was found.
     UnexpectedEvent { expected: String, found: String },
     /// A date that the crate can't hold. Dates are outside the comparison.
@@ -40,8 +40,12 @@ impl Refusal {
             }
             _ => return Refusal::Unforeseen(error.to_string()),
         };
+        let marker = match error.kind() {
+            ErrorKind::UnknownObjectType(marker) => *marker,
+            _ => 0,
+        };
         match error.place() {
-            Some(place) => Refusal::Reader { number, place },
+            Some(place) => Refusal::Reader { number, place, marker },
             None => Refusal::Unforeseen(error.to_string()),
         }
     }

@@ -2,12 +2,10 @@
 use mathlib.Core.List.{List}
 use mathlib.Core.Path.{_≡_, refl, sym, ap, _∙_}
 use Prim.Native.Nat.{ℕ}
-use borrow.Fn.Kinds.{PK, RK, Out, Dens, endedOf, resT}
-use contract.Lifetimes.{Lfts}
 use denote.Ref.{now}
-use denote.Triple.Clauses.{AtExit}
 use Rattle.object.specs.FoundLaws.{foundOf-one}
-use Rattle.reader.specs.SaidLaws.{stepSaid-one, textSaid-one, look-one, trailer-one}
+use Rattle.layout.specs.SaidLaws.{look-one, trailer-one}
+use Rattle.reader.specs.SaidLaws.{stepSaid-one, textSaid-one}
 use Rattle.tape.specs.AppendLaws.{said-one}
 use Rattle.transcribe.specs.Run.{Run}
 use Rattle.transcribe.specs.SaidLaws.{endSaid-one}
@@ -36,14 +34,14 @@ use Rattle.exports.proofs.tape_step.zm_tape_step.Kinds as zm-tape-step-kinds
 use Rattle.exports.proofs.tape_step.zm_tape_step.Reads as zm-tape-step-reads
 use Rattle.exports.proofs.transcript.zm_transcribe.Kinds as zm-transcribe-kinds
 use Rattle.exports.proofs.transcript.zm_transcribe.Reads as zm-transcribe-reads
-use Rattle.claims.proofs.itself.Kinds as itself-kinds
-use Rattle.claims.proofs.itself.Reads as itself-reads
 use Rattle.event.proofs.real.real_of.Kinds as real-of-kinds
 use Rattle.event.proofs.real.real_of.Reads as real-of-reads
 use Rattle.event.proofs.real.short_real_of.Kinds as short-real-of-kinds
 use Rattle.event.proofs.real.short_real_of.Reads as short-real-of-reads
 use Rattle.event.proofs.real.float_bits.Kinds as float-bits-kinds
 use Rattle.event.proofs.real.float_bits.Reads as float-bits-reads
+use Rattle.event.proofs.same.is_same.Kinds as is-same-kinds
+use Rattle.event.proofs.same.is_same.Reads as is-same-reads
 use Rattle.number.proofs.be.read_be.Kinds as read-be-kinds
 use Rattle.number.proofs.be.read_be.Reads as read-be-reads
 use Rattle.number.proofs.be.read_halves.Kinds as read-halves-kinds
@@ -86,30 +84,29 @@ use Rattle.object.proofs.container.container_at.Kinds as container-at-kinds
 use Rattle.object.proofs.container.container_at.Reads as container-at-reads
 use Rattle.object.proofs.read.object_at.Kinds as object-at-kinds
 use Rattle.object.proofs.read.object_at.Reads as object-at-reads
-use Rattle.reader.proofs.answer.number_of.Kinds as number-of-kinds
-use Rattle.reader.proofs.answer.number_of.Reads as number-of-reads
-use Rattle.reader.proofs.layout.number_at.Kinds as number-at-kinds
-use Rattle.reader.proofs.layout.number_at.Reads as number-at-reads
-use Rattle.reader.proofs.layout.due_at.Kinds as due-at-kinds
-use Rattle.reader.proofs.layout.due_at.Reads as due-at-reads
-use Rattle.reader.proofs.layout.stands_at.Kinds as stands-at-kinds
-use Rattle.reader.proofs.layout.stands_at.Reads as stands-at-reads
-use Rattle.reader.proofs.layout.due_in.Kinds as due-in-kinds
-use Rattle.reader.proofs.layout.due_in.Reads as due-in-reads
-use Rattle.reader.proofs.lookup.look_up.Kinds as look-up-kinds
-use Rattle.reader.proofs.lookup.look_up.Reads as look-up-reads
-use Rattle.reader.proofs.lookup.start_of.Kinds as start-of-kinds
-use Rattle.reader.proofs.lookup.start_of.Reads as start-of-reads
+use Rattle.layout.proofs.refusal.number_of.Kinds as number-of-kinds
+use Rattle.layout.proofs.refusal.number_of.Reads as number-of-reads
+use Rattle.layout.proofs.layout.number_at.Kinds as number-at-kinds
+use Rattle.layout.proofs.layout.number_at.Reads as number-at-reads
+use Rattle.layout.proofs.layout.due_at.Kinds as due-at-kinds
+use Rattle.layout.proofs.layout.due_at.Reads as due-at-reads
+use Rattle.layout.proofs.layout.stands_at.Kinds as stands-at-kinds
+use Rattle.layout.proofs.layout.stands_at.Reads as stands-at-reads
+use Rattle.layout.proofs.layout.due_in.Kinds as due-in-kinds
+use Rattle.layout.proofs.layout.due_in.Reads as due-in-reads
+use Rattle.layout.proofs.lookup.look_up.Kinds as look-up-kinds
+use Rattle.layout.proofs.lookup.look_up.Reads as look-up-reads
+use Rattle.layout.proofs.lookup.start_of.Kinds as start-of-kinds
+use Rattle.layout.proofs.lookup.start_of.Reads as start-of-reads
+use Rattle.layout.proofs.trailer.trailer_of.Kinds as trailer-of-kinds
+use Rattle.layout.proofs.trailer.trailer_of.Reads as trailer-of-reads
+use Rattle.reader.proofs.One.{One, OneView}
 use Rattle.reader.proofs.state.is_open.Kinds as is-open-kinds
 use Rattle.reader.proofs.state.is_open.Reads as is-open-reads
-use Rattle.reader.proofs.trailer.trailer_of.Kinds as trailer-of-kinds
-use Rattle.reader.proofs.trailer.trailer_of.Reads as trailer-of-reads
 use Rattle.reader.proofs.state.Reader.max_open.Kinds as max-open-kinds
 use Rattle.reader.proofs.state.Reader.max_open.Reads as max-open-reads
 use Rattle.reader.proofs.state.Reader.max_length.Kinds as max-length-kinds
 use Rattle.reader.proofs.state.Reader.max_length.Reads as max-length-reads
-use Rattle.reader.proofs.state.Reader.fresh_reader.Kinds as fresh-reader-kinds
-use Rattle.reader.proofs.state.Reader.fresh_reader.Reads as fresh-reader-reads
 use Rattle.reader.proofs.state.Reader.ended_reader.Kinds as ended-reader-kinds
 use Rattle.reader.proofs.state.Reader.ended_reader.Reads as ended-reader-reads
 use Rattle.reader.proofs.state.Reader.next.Kinds as next-kinds
@@ -122,20 +119,8 @@ use Rattle.tape.proofs.step.step.Kinds as step-kinds
 use Rattle.tape.proofs.step.step.Reads as step-reads
 use Rattle.tape.proofs.append.append.Kinds as append-kinds
 use Rattle.tape.proofs.append.append.Reads as append-reads
-use Rattle.tape.proofs.append.put.Kinds as put-kinds
-use Rattle.tape.proofs.append.put.Reads as put-reads
-
--- two answers to the same arguments that meet a contract are the same, and so is what is looked at in lent memory as the function returns
-abbrev pub One : (n : ℕ) (ps : List (PK n)) (r : RK n) → Out n ps r → (X : Type 0) → ((κs : Lfts n) → AtExit (endedOf n ps r) κs → X) → Type 0
-One n ps r post X look =
-    (κs : Lfts n) (a : Dens κs ps) (x y : resT r κs .Denot) (e f : AtExit (endedOf n ps r) κs) →
-    post κs a x e → post κs a y f → (x ≡ y) × (look κs e ≡ look κs f)
-
--- the same of what is seen of an answer that is a reference
-abbrev pub OneView : (n : ℕ) (ps : List (PK n)) (r : RK n) → Out n ps r → (Y : Type 0) → ((κs : Lfts n) → resT r κs .Denot → Y) → Type 0
-OneView n ps r post Y view =
-    (κs : Lfts n) (a : Dens κs ps) (x y : resT r κs .Denot) (e f : AtExit (endedOf n ps r) κs) →
-    post κs a x e → post κs a y f → view κs x ≡ view κs y
+use Rattle.tape.proofs.append.append_unchecked.Kinds as append-unchecked-kinds
+use Rattle.tape.proofs.append.append_unchecked.Reads as append-unchecked-reads
 
 real-of-one : One 0 real-of-kinds.ps real-of-kinds.r real-of-reads.Post (Unit {0}) (λ κs e. tt)
 real-of-one κs a x y e f p q = (p ∙ sym q, refl)
@@ -145,6 +130,9 @@ short-real-of-one κs a x y e f p q = (p ∙ sym q, refl)
 
 float-bits-one : One 0 float-bits-kinds.ps float-bits-kinds.r float-bits-reads.Post (Unit {0}) (λ κs e. tt)
 float-bits-one κs a x y e f p q = (p ∙ sym q, refl)
+
+is-same-one : One 0 is-same-kinds.ps is-same-kinds.r is-same-reads.Post (Unit {0}) (λ κs e. tt)
+is-same-one κs a x y e f p q = (p ∙ sym q, refl)
 
 read-be-one : One 1 read-be-kinds.ps read-be-kinds.r read-be-reads.Post (Unit {0}) (λ κs e. tt)
 read-be-one κs a x y e f p q = (p ∙ sym q, refl)
@@ -242,9 +230,6 @@ max-open-one κs a x y e f p q = (p ∙ sym q, refl)
 max-length-one : One 0 max-length-kinds.ps max-length-kinds.r max-length-reads.Post (Unit {0}) (λ κs e. tt)
 max-length-one κs a x y e f p q = (p ∙ sym q, refl)
 
-fresh-reader-one : One 0 fresh-reader-kinds.ps fresh-reader-kinds.r fresh-reader-reads.Post (Unit {0}) (λ κs e. tt)
-fresh-reader-one κs a x y e f p q = (p ∙ sym q, refl)
-
 ended-reader-one : One 0 ended-reader-kinds.ps ended-reader-kinds.r ended-reader-reads.Post (Unit {0}) (λ κs e. tt)
 ended-reader-one κs a x y e f p q = (p ∙ sym q, refl)
 
@@ -264,8 +249,8 @@ step-one κs a x y e f p q = (p ∙ sym q, refl)
 append-one : One 2 append-kinds.ps append-kinds.r append-reads.Post (List ℕ) (λ κs e. now (e .0))
 append-one κs a x y e f p q = (said-one x y (p .0 ∙ sym (q .0)), p .1 .0 ∙ sym (q .1 .0))
 
-put-one : One 2 put-kinds.ps put-kinds.r put-reads.Post (List ℕ) (λ κs e. now (e .0))
-put-one κs a x y e f p q = (said-one x y (p .0 ∙ sym (q .0)), p .1 ∙ sym (q .1))
+append-unchecked-one : One 2 append-unchecked-kinds.ps append-unchecked-kinds.r append-unchecked-reads.Post (List ℕ) (λ κs e. now (e .0))
+append-unchecked-one κs a x y e f p q = (said-one x y (p .0 ∙ sym (q .0)), p .1 ∙ sym (q .1))
 
 transcribe-one : One 3 transcribe-kinds.ps transcribe-kinds.r transcribe-reads.Post (record { tape : List ℕ; scratch : List ℕ }) (λ κs e. record { tape = now (e .1 .1 .0); scratch = now (e .1 .0) })
 transcribe-one κs a x y e f p q =
@@ -294,10 +279,10 @@ zm-is-ascii-one : One 1 zm-is-ascii-kinds.ps zm-is-ascii-kinds.r zm-is-ascii-rea
 zm-is-ascii-one κs a x y e f p q = (p ∙ sym q, refl)
 
 zm-utf16-to-utf8-one : One 2 zm-utf16-to-utf8-kinds.ps zm-utf16-to-utf8-kinds.r zm-utf16-to-utf8-reads.Post (List ℕ) (λ κs e. now (e .1 .0))
-zm-utf16-to-utf8-one κs a x y e f p q = (p .0 ∙ sym (q .0), p .1 ∙ sym (q .1))
+zm-utf16-to-utf8-one κs a x y e f p q = (p .0 ∙ sym (q .0), p .1 .0 ∙ sym (q .1 .0))
 
 zm-utf8-to-utf16-one : One 2 zm-utf8-to-utf16-kinds.ps zm-utf8-to-utf16-kinds.r zm-utf8-to-utf16-reads.Post (List ℕ) (λ κs e. now (e .1 .0))
-zm-utf8-to-utf16-one κs a x y e f p q = (p .0 ∙ sym (q .0), p .1 ∙ sym (q .1))
+zm-utf8-to-utf16-one κs a x y e f p q = (p .0 ∙ sym (q .0), p .1 .0 ∙ sym (q .1 .0))
 
 zm-tape-append-one : One 2 zm-tape-append-kinds.ps zm-tape-append-kinds.r zm-tape-append-reads.Post (List ℕ) (λ κs e. now (e .0))
 zm-tape-append-one κs a x y e f p q = (p .0 ∙ sym (q .0), p .1 ∙ sym (q .1))
@@ -308,12 +293,8 @@ zm-tape-step-one κs a x y e f p q = (
   rw (p .1 .0 ∙ sym (q .1 .0), p .1 .1 .0 ∙ sym (q .1 .1 .0), p .1 .1 .1 ∙ sym (q .1 .1 .1)),
 )
 
-zm-transcribe-one : One 5 zm-transcribe-kinds.ps zm-transcribe-kinds.r zm-transcribe-reads.Post (record { held : ℕ; place : ℕ; tape : List ℕ; scratch : List ℕ }) (λ κs e. record { held = now (e .1 .1 .1 .1 .0); place = now (e .1 .1 .1 .1 .1 .0); tape = now (e .1 .1 .0); scratch = now (e .1 .0) })
+zm-transcribe-one : One 6 zm-transcribe-kinds.ps zm-transcribe-kinds.r zm-transcribe-reads.Post (record { held : ℕ; place : ℕ; marker : ℕ; tape : List ℕ; scratch : List ℕ }) (λ κs e. record { held = now (e .1 .1 .1 .1 .0); place = now (e .1 .1 .1 .1 .1 .0); marker = now (e .1 .1 .1 .1 .1 .1 .0); tape = now (e .1 .1 .0); scratch = now (e .1 .0) })
 zm-transcribe-one κs a x y e f p q = (
   p .0 ∙ sym (q .0),
-  rw (p .1 .0 ∙ sym (q .1 .0), p .1 .1 .0 ∙ sym (q .1 .1 .0), p .1 .1 .1 .0 ∙ sym (q .1 .1 .1 .0), p .1 .1 .1 .1 ∙ sym (q .1 .1 .1 .1)),
+  rw (p .1 .0 ∙ sym (q .1 .0), p .1 .1 .0 ∙ sym (q .1 .1 .0), p .1 .1 .1 .0 ∙ sym (q .1 .1 .1 .0), p .1 .1 .1 .1 .0 ∙ sym (q .1 .1 .1 .1 .0), p .1 .1 .1 .1 .1 ∙ sym (q .1 .1 .1 .1 .1)),
 )
-
--- and the smallest of them, which a must-fail edit weakens
-itself-one : One 0 itself-kinds.ps itself-kinds.r itself-reads.Post (Unit {0}) (λ κs e. tt)
-itself-one κs a x y e f p q = (p ∙ sym q, refl)

@@ -42,7 +42,7 @@ use Rattle.writer.proofs.write_file.Kinds as write-file-kinds
 use Rattle.writer.proofs.write_file.Reads as write-file-reads
 use Rattle.writer.specs.Write.{usedOf}
 use Rattle.writer.specs.WriteLaws.{writtenSaid-one}
-use Rattle.claims.proofs.One.{One}
+use Rattle.reader.proofs.One.{One}
 
 limit-length-one : One 0 limit-length-kinds.ps limit-length-kinds.r limit-length-reads.Post (Unit {0}) (λ κs e. tt)
 limit-length-one κs a x y e f p q = (p ∙ sym q, refl)

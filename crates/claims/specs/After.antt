@@ -1,4 +1,4 @@
--- The state after each answer, whatever file is lent to whatever state: document 01's table of refusal numbers, "State after".
+-- The state after each answer, whatever file is lent to whatever state: what docs/FORMAT.md, N, says that a refusal leaves.
 use mathlib.Core.Bool.{Bool, true, false, cond, not, _&&_}
 use mathlib.Core.List.{List, []}
 use mathlib.Core.Logic.{inl, inr}
@@ -15,21 +15,23 @@ use Rattle.number.specs.declared.width.Size.the-variants.{Allowed, NotAllowed}
 use Rattle.number.specs.declared.width.Width.{Width}
 use Rattle.event.specs.Format.{magic}
 use Rattle.object.specs.Content.{trailerAt}
-use Rattle.reader.specs.Layout.{lookOf, sourceOf}
-use Rattle.reader.specs.Machine.{Said, event, ended, refused, Step, step, Looked, barred, missing, faulty, scalar, container, Shape, enter, arrive, follow, stepOf}
+use Rattle.layout.specs.FoundLaws.{Faults}
+use Rattle.layout.specs.LookLaws.{Looked-right, look-right, Laid, never-missing}
+use Rattle.layout.specs.TestLaws.{by-test}
+use Rattle.layout.specs.Layout.{lookOf, sourceOf}
+use Rattle.layout.specs.Looked.{Looked, barred, missing, faulty, scalar, container, Shape}
+use Rattle.layout.specs.Trailer.{Trailer, keeps, lays, begins, eightAt, tableOf, refSizeOf, sizesOf, trailerOf}
+use Rattle.layout.specs.declared.layout.Due.{Due}
+use Rattle.layout.specs.declared.layout.Due.the-variants.{Wrong, Close, Member}
+use Rattle.layout.specs.declared.layout.Layout.{Layout}
+use Rattle.reader.specs.Machine.{Said, event, ended, refused, Step, step, enter, arrive, follow, stepOf}
 use Rattle.reader.specs.Next.{laidOut, begin, withRefs, goOn, nextOf}
 use Rattle.reader.specs.State.{maxOpen, maxLength, endedReader, openOf, innermost, memberOf}
-use Rattle.reader.specs.Trailer.{Trailer, keeps, lays, begins, eightAt, tableOf, refSizeOf, sizesOf, trailerOf}
-use Rattle.reader.specs.declared.layout.Due.{Due}
-use Rattle.reader.specs.declared.layout.Due.the-variants.{Wrong, Close, Member}
-use Rattle.reader.specs.declared.layout.Layout.{Layout}
 use Rattle.reader.specs.declared.state.Reader.{Reader}
 use Rattle.claims.specs.Calls.{runs, answerOf}
 use Rattle.claims.specs.Ended.{Done, done-ended, done-answers}
-use Rattle.claims.specs.Found.{Faults}
-use Rattle.claims.specs.Look.{Looks, looks, Laid, never-missing}
 
--- which refusals leave the state unchanged: 1, 3, 4 and 17; 2 "in the trailer", that is of a fresh reader on a file with no room for
+-- which refusals leave the state unchanged: 1, 3, 4, 16 and 17; 2 "in the trailer", that is of a fresh reader on a file with no room for
 -- one; 5 "if the byte is 0". All others end
 unfoldable pub unchanged : List ℕ → Reader → ℕ → Bool
 unchanged file r number =
@@ -38,11 +40,12 @@ unchanged file r number =
     (cond (eqb number 3) true
     (cond (eqb number 4) true
     (cond (eqb number 5) (eqb (getD file (trailerAt file + 7) 0) 0)
-    (eqb number 17)))))
+    (cond (eqb number 16) true
+    (eqb number 17))))))
 
 -- ended comes of a state that has ended, and leaves it
 abbrev pub After : List ℕ → Reader → Reader → Said → Type 0
-After file r s (event e offset) = Unit {0}
+After file r s (event e) = Unit {0}
 After file r s ended = (s ≡ r) × Done r
 After file r s (refused number values place) = s ≡ cond (unchanged file r number) r endedReader
 
@@ -50,14 +53,10 @@ module _ (file : List ℕ) (r : Reader) where
   pub six-ends : (number : ℕ) → 6 ≤ number → number ≤ 15 → unchanged file r number ≡ false
   unfolding unchanged
   six-ends number h k =
-      rw (ne-eqb number 1 (λ e. omega arith), ne-eqb number 2 (λ e. omega arith), ne-eqb number 3 (λ e. omega arith), ne-eqb number 4 (λ e. omega arith), ne-eqb number 5 (λ e. omega arith), ne-eqb number 17 (λ e. omega arith))
+      rw (ne-eqb number 1 (λ e. omega arith), ne-eqb number 2 (λ e. omega arith), ne-eqb number 3 (λ e. omega arith), ne-eqb number 4 (λ e. omega arith), ne-eqb number 5 (λ e. omega arith), ne-eqb number 16 (λ e. omega arith), ne-eqb number 17 (λ e. omega arith))
 
   abbrev Leaves : Step → Type 0
   Leaves x = After file r (x .state) (x .answer)
-
-  either : (b : Bool) (x y : Step) → (b ≡ true → Leaves x) → (b ≡ false → Leaves y) → Leaves (cond b x y)
-  either true x y p q = p refl
-  either false x y p q = q refl
 
   wrong-leaves : Leaves (step r (refused 17 [] 0))
   unfolding unchanged
@@ -72,9 +71,9 @@ module _ (file : List ℕ) (r : Reader) where
 
     enter-leaves : (s : Reader) (n : ℕ) (shape : Shape) (k offset : ℕ) → Leaves (enter s n shape k offset)
     unfolding enter unchanged
-    enter-leaves s n shape k offset = either (memberOf (openOf s) n) _ _ (λ e. refl) (λ e. either (leb maxOpen (s .held)) _ _ (λ e. refl) (λ e. tt))
+    enter-leaves s n shape k offset = by-test Leaves (memberOf (openOf s) n) _ _ (λ e. refl) (λ e. by-test Leaves (leb maxOpen (s .depth)) _ _ (λ e. refl) (λ e. tt))
 
-    arrive-leaves : (s : Reader) (l : Layout) (n : ℕ) (x : Looked) → Looks file l n x → (x ≡ missing → s ≡ r) → Leaves (arrive s n x)
+    arrive-leaves : (s : Reader) (l : Layout) (n : ℕ) (x : Looked) → Looked-right file l n x → (x ≡ missing → s ≡ r) → Leaves (arrive s n x)
     unfolding arrive unchanged
     arrive-leaves s l n (barred number values) k m = rw (faults-end number k)
     arrive-leaves s l n missing k m = m refl
@@ -86,7 +85,7 @@ module _ (file : List ℕ) (r : Reader) where
     unfolding follow sourceOf
     follow-leaves l Wrong = wrong-leaves
     follow-leaves l (Close offset) = tt
-    follow-leaves l (Member n) = arrive-leaves r l n (lookOf file l n) (looks file l n) (λ e. refl)
+    follow-leaves l (Member n) = arrive-leaves r l n (lookOf file l n) (look-right file l n) (λ e. refl)
 
     refs-leaves : (offsets : Width) (s : Size) → Leaves (withRefs file r offsets s)
     unfolding withRefs stepOf
@@ -100,9 +99,8 @@ module _ (file : List ℕ) (r : Reader) where
 
   -- the trailer
   module _ (new : r .fresh ≡ true) where
-    picks : (b : Bool) (x y : Trailer) → (b ≡ true → Leaves (begin file r x)) → (b ≡ false → Leaves (begin file r y)) → Leaves (begin file r (cond b x y))
-    picks true x y p q = p refl
-    picks false x y p q = q refl
+    abbrev Begins : Trailer → Type 0
+    Begins t = Leaves (begin file r t)
 
     short-leaves : length file < 32 → Leaves (begin file r (keeps 2 [] 0))
     unfolding begin unchanged
@@ -116,16 +114,16 @@ module _ (file : List ℕ) (r : Reader) where
       laid-leaves : (l : Layout) (root : ℕ) → Laid file l → Leaves (begin file r (lays l root))
       unfolding begin
       laid-leaves l root laid =
-          arrive-leaves (never-short (r .fresh)) (laidOut file l) l root (lookOf file l root) (looks file l root) (λ e. absurd (never-missing file l laid root e))
+          arrive-leaves (never-short (r .fresh)) (laidOut file l) l root (lookOf file l root) (look-right file l root) (λ e. absurd (never-missing file l laid root e))
 
       table-leaves : (offsets refs : Width) → Leaves (begin file r (tableOf file offsets refs))
       unfolding tableOf begin unchanged
-      table-leaves offsets refs = picks (leb (eightAt file 24 + eightAt file 8 * bytesIn offsets) (trailerAt file)) _ _ (λ e. laid-leaves _ (eightAt file 16) (leb-true _ _ e)) (λ e. refl)
+      table-leaves offsets refs = by-test Begins (leb (eightAt file 24 + eightAt file 8 * bytesIn offsets) (trailerAt file)) _ _ (λ e. laid-leaves _ (eightAt file 16) (leb-true _ _ e)) (λ e. refl)
 
       ref-leaves : (offsets : Width) (s : Size) → Leaves (begin file r (refSizeOf file offsets s))
       unfolding refSizeOf begin unchanged
       ref-leaves offsets (Allowed refs) = table-leaves offsets refs
-      ref-leaves offsets NotAllowed = picks (eqb (getD file (trailerAt file + 7) 0) 0) _ _ (λ e. rw e) (λ e. rw e)
+      ref-leaves offsets NotAllowed = by-test Begins (eqb (getD file (trailerAt file + 7) 0) 0) _ _ (λ e. rw e) (λ e. rw e)
 
       sizes-leaves : (s : Size) → Leaves (begin file r (sizesOf file s))
       unfolding sizesOf begin unchanged
@@ -135,10 +133,10 @@ module _ (file : List ℕ) (r : Reader) where
     begin-leaves : Leaves (begin file r (trailerOf file))
     unfolding trailerOf begin unchanged
     begin-leaves =
-        picks (ltb (length file) 8) _ _
+        by-test Begins (ltb (length file) 8) _ _
         (λ e. short-leaves (omega (arith, ltb-true (length file) 8 e)))
-        (λ e. picks (begins magic file) _ _
-        (λ e. picks (ltb (length file) 32) _ _
+        (λ e. by-test Begins (begins magic file) _ _
+        (λ e. by-test Begins (ltb (length file) 32) _ _
         (λ e. short-leaves (ltb-true _ _ e))
         (λ e. sizes-leaves (ltb-false _ _ e) (widthOf (getD file (trailerAt file + 6) 0))))
         (λ e. refl))
@@ -150,12 +148,12 @@ module _ (file : List ℕ) (r : Reader) where
   pub leaves : Leaves (nextOf file r)
   unfolding nextOf unchanged
   leaves =
-      either (not (r .fresh) && eqb (r .held) 0) _ _
-      (λ e. let t = both (r .fresh) (eqb (r .held) 0) e in (refl, record { old = t .0; none = eqb-true _ _ (t .1) }))
-      (λ e. either (ltb maxLength (length file)) _ _ (λ e. refl)
-      (λ e. either (r .fresh) _ _ begin-leaves
-      (λ f. either (not (eqb (r .length) (length file))) _ _ (λ e. wrong-leaves)
-      (λ e. either (ltb maxOpen (r .held)) _ _ (λ e. wrong-leaves)
+      by-test Leaves (not (r .fresh) && eqb (r .depth) 0) _ _
+      (λ e. let t = both (r .fresh) (eqb (r .depth) 0) e in (refl, record { old = t .0; none = eqb-true _ _ (t .1) }))
+      (λ e. by-test Leaves (ltb maxLength (length file)) _ _ (λ e. refl)
+      (λ e. by-test Leaves (r .fresh) _ _ begin-leaves
+      (λ f. by-test Leaves (not (eqb (r .length) (length file))) _ _ (λ e. wrong-leaves)
+      (λ e. by-test Leaves (ltb maxOpen (r .depth)) _ _ (λ e. wrong-leaves)
       (λ e. go-leaves (ap (λ (b : Bool). b && ltb (length file) 32) f) (widthOf (r .offsets)) (widthOf (r .refs)))))))
 
   -- the state after a refusal

@@ -11,13 +11,13 @@ use Rattle.number.specs.Be.{be}
 use Rattle.number.specs.Width.{bytesIn}
 use Rattle.object.specs.Content.{part}
 use Rattle.object.specs.declared.content.Extent.{Extent}
-use Rattle.reader.specs.Layout.{numberAt, placeIn, given, dueAt, inArray, inDictionary, dueIn, dueFrom, dueOf}
-use Rattle.reader.specs.Machine.{Shape, array, dictionary}
-use Rattle.reader.specs.declared.layout.Due.the-variants.{Close, Member}
-use Rattle.reader.specs.declared.layout.Layout.{Layout}
-use Rattle.reader.specs.declared.state.Frame.{Frame}
-use Rattle.claims.specs.Found.{made, refsOf}
-use Rattle.claims.specs.Look.{Standing}
+use Rattle.layout.specs.FoundLaws.{made, refsOf}
+use Rattle.layout.specs.LookLaws.{Standing}
+use Rattle.layout.specs.Layout.{numberAt, placeIn, given, dueAt, inArray, inDictionary, dueIn, standsFrom, standsAt, dueOf}
+use Rattle.layout.specs.Looked.{Shape, array, dictionary}
+use Rattle.layout.specs.declared.layout.Due.the-variants.{Close, Member}
+use Rattle.layout.specs.declared.layout.Layout.{Layout}
+use Rattle.layout.specs.declared.frame.Frame.{Frame}
 
 -- the place, among the references, of a position
 unfoldable pub placeOf : Shape → ℕ → ℕ → ℕ
@@ -48,7 +48,7 @@ module _ (file : List ℕ) (l : Layout) (f : Frame) (s : Shape) (offset : ℕ) (
   due-made dictionary e h = rw (eq-eqb _ _ h)
 
   due-is : dueOf file l f ≡ dueAt file (l .refs) offset (st .lies .extent .start) (refsOf s (f .length)) (placeOf s (f .length) (f .position)) (f .position)
-  unfolding dueOf dueFrom
+  unfolding dueOf standsAt standsFrom
   due-is = rw (lt-ltb _ _ (st .numbered), st .entry, st .lies .is) (due-made s (st .lies .extent) (st .lies .counts))
 
   -- behind the last reference the end is due

@@ -14,7 +14,7 @@ use Rattle.claims.specs.Calls.{runs, answerOf}
 -- a state that isn't fresh and has nothing open
 pub record Done (r : Reader) : Type 0 where
   pub old : r .fresh ≡ false
-  pub none : r .held ≡ 0
+  pub none : r .depth ≡ 0
 
 -- the state after a call on each of some files, in turn
 unfoldable pub callsOn : List (List ℕ) → Reader → Reader
@@ -30,7 +30,7 @@ module _ (r : Reader) (d : Done r) where
   done-stays [] = refl
   done-stays (file ∷ files) = rw (done-next file) (done-stays files)
 
-  -- Document 01: "With no open container left, the answer is Ended, for ever."
+  -- with nothing open any more the answer is Ended, for ever (docs/FORMAT.md, R19)
   pub ended-for-ever : (files : List (List ℕ)) (file : List ℕ) → nextOf file (callsOn files r) ≡ step r ended
   ended-for-ever files file = rw (done-stays files) (done-next file)
 

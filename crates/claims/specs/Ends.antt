@@ -11,19 +11,20 @@ use lib.Seq.{getD-set-same, getD-set-other}
 use Rattle.number.specs.Width.{bytesIn}
 use Rattle.number.specs.WidthLaws.{bytesIn-pos}
 use Rattle.event.specs.declared.Event.the-variants.{EndCollection}
-use Rattle.reader.specs.Layout.{dueOf}
-use Rattle.reader.specs.Machine.{Said, event, ended, refused, Step, step}
+use Rattle.layout.specs.FoundLaws.{refsOf}
+use Rattle.layout.specs.Layout.{dueOf}
+use Rattle.layout.specs.Frame.{noFrame, nextIn}
+use Rattle.layout.specs.declared.layout.Due.the-variants.{Member}
+use Rattle.layout.specs.declared.layout.Layout.{Layout}
+use Rattle.layout.specs.declared.frame.Frame.{Frame}
+use Rattle.reader.specs.Machine.{Said, event, eventAt, ended, refused, Step, step}
 use Rattle.reader.specs.Next.{laidOut, nextOf}
 use Rattle.reader.specs.NextLaws.{next-ended}
-use Rattle.reader.specs.State.{maxOpen, noFrame, freshReader, endedReader, innermost, nextIn, advanced, passed, entered, closed}
-use Rattle.reader.specs.declared.layout.Due.the-variants.{Member}
-use Rattle.reader.specs.declared.layout.Layout.{Layout}
-use Rattle.reader.specs.declared.state.Frame.{Frame}
+use Rattle.reader.specs.State.{maxOpen, freshReader, endedReader, innermost, advanced, passed, entered, closed}
 use Rattle.reader.specs.declared.state.Reader.{Reader}
 use Rattle.claims.specs.Call as call
 use Rattle.claims.specs.Call.{Call, First, first}
 use Rattle.claims.specs.Calls.{runs, answerOf}
-use Rattle.claims.specs.Found.{refsOf}
 use Rattle.claims.specs.Open.{frameAt, Opened, Stack, Open}
 use Rattle.claims.specs.Reached.{due-top, passed-is, entered-is, closed-is, closed-last, open-passed, open-entered, open-closed, open-first}
 use Rattle.claims.specs.Stack.{same-or-not, next-position, on-top, on-other, stack-on, off-other}
@@ -35,67 +36,67 @@ refs-few file l f t =
     let i : t .standing .lies .extent .start + refsOf (t .shape) (f .length) * bytesIn (l .refs) ≤ length file = t .standing .lies .inside in
     omega (arith, le-mul-of-pos-right (refsOf (t .shape) (f .length)) (bytesIn-pos (l .refs)))
 
-module _ (file : List ℕ) (l : Layout) (root held : ℕ) (fs : List Frame) (o : Stack file l root held fs) (depth : ℕ) (fits : held ≤ depth) where
+module _ (file : List ℕ) (l : Layout) (root depth : ℕ) (fs : List Frame) (o : Stack file l root depth fs) (deepest : ℕ) (fits : depth ≤ deepest) where
   abbrev weightOf : List Frame → ℕ → ℕ
-  weightOf gs h = weight (length file) depth gs h
+  weightOf gs h = weight (length file) deepest gs h
 
   abbrev unit : ℕ
-  unit = (length file + 2) ^ (depth - (held - 1))
+  unit = (length file + 2) ^ (deepest - (depth - 1))
 
   abbrev place : ℕ
-  place = frameAt fs (held - 1) .position
+  place = frameAt fs (depth - 1) .position
 
   few : place ≤ length file
   few =
-      let t = o .opened (held - 1) (omega arith) in
-      omega (arith, refs-few file l (frameAt fs (held - 1)) t, t .within)
+      let t = o .opened (depth - 1) (omega arith) in
+      omega (arith, refs-few file l (frameAt fs (depth - 1)) t, t .within)
 
   -- a close weighs less
-  falls-off : 1 < held → weightOf (set fs (held - 1) noFrame) (held - 1) < weightOf fs held
+  falls-off : 1 < depth → weightOf (set fs (depth - 1) noFrame) (depth - 1) < weightOf fs depth
   falls-off more =
-      let a = weight-same (length file) depth (set fs (held - 1) noFrame) fs (held - 1) (λ i h. off-other file l root held fs o more i h) in
-      let b = weight-top (length file) depth fs held (o .some) in
-      let c : 0 < (length file + 1 - place) * unit = weighs (length file) unit place few (unit-pos (length file) depth (held - 1)) in
+      let a = weight-same (length file) deepest (set fs (depth - 1) noFrame) fs (depth - 1) (λ i h. off-other file l root depth fs o more i h) in
+      let b = weight-top (length file) deepest fs depth (o .some) in
+      let c : 0 < (length file + 1 - place) * unit = weighs (length file) unit place few (unit-pos (length file) deepest (depth - 1)) in
       omega arith
 
   -- a reference that is handed out, by a unit
-  falls-on : (n : ℕ) → dueOf file l (frameAt fs (held - 1)) ≡ Member n → weightOf (set fs (held - 1) (nextIn (frameAt fs (held - 1)))) held + unit ≡ weightOf fs held
+  falls-on : (n : ℕ) → dueOf file l (frameAt fs (depth - 1)) ≡ Member n → weightOf (set fs (depth - 1) (nextIn (frameAt fs (depth - 1)))) depth + unit ≡ weightOf fs depth
   falls-on n due =
-      let gs = set fs (held - 1) (nextIn (frameAt fs (held - 1))) in
-      let a = weight-same (length file) depth gs fs (held - 1) (λ i h. on-other file l root held fs o n due i (λ e. omega arith)) in
-      let b = weight-top (length file) depth fs held (o .some) in
-      let c = weight-top (length file) depth gs held (o .some) in
-      let p : frameAt gs (held - 1) .position ≡ place + 1 = rw (on-top file l root held fs o n due) (next-position (frameAt fs (held - 1))) in
-      let d : (length file + 1 - frameAt gs (held - 1) .position) * unit + unit ≡ (length file + 1 - place) * unit = rw p (weight-next (length file) unit place few) in
+      let gs = set fs (depth - 1) (nextIn (frameAt fs (depth - 1))) in
+      let a = weight-same (length file) deepest gs fs (depth - 1) (λ i h. on-other file l root depth fs o n due i (λ e. omega arith)) in
+      let b = weight-top (length file) deepest fs depth (o .some) in
+      let c = weight-top (length file) deepest gs depth (o .some) in
+      let p : frameAt gs (depth - 1) .position ≡ place + 1 = rw (on-top file l root depth fs o n due) (next-position (frameAt fs (depth - 1))) in
+      let d : (length file + 1 - frameAt gs (depth - 1) .position) * unit + unit ≡ (length file + 1 - place) * unit = rw p (weight-next (length file) unit place few) in
       omega arith
 
   -- and a container that is entered weighs less than that unit
-  falls-onto : (n : ℕ) → dueOf file l (frameAt fs (held - 1)) ≡ Member n → held < maxOpen → (new : Frame) → new .position ≡ 0
-      → weightOf (set (set fs (held - 1) (nextIn (frameAt fs (held - 1)))) held new) (held + 1) < weightOf fs held
+  falls-onto : (n : ℕ) → dueOf file l (frameAt fs (depth - 1)) ≡ Member n → depth < maxOpen → (new : Frame) → new .position ≡ 0
+      → weightOf (set (set fs (depth - 1) (nextIn (frameAt fs (depth - 1)))) depth new) (depth + 1) < weightOf fs depth
   falls-onto n due below new zeroth =
-      let gs = set fs (held - 1) (nextIn (frameAt fs (held - 1))) in
-      let ks = set gs held new in
-      let k : held + 1 - 1 ≡ held = omega arith in
-      let q : length gs ≡ maxOpen = stack-on file l root held fs o n due .room in
-      let a = weight-same (length file) depth ks gs held (λ i h. getD-set-other gs held i new noFrame (λ e. omega arith)) in
-      let t : frameAt ks held ≡ new = getD-set-same gs held new noFrame (omega arith) in
-      let b : weightOf ks (held + 1) ≡ weightOf ks held + (length file + 1 - frameAt ks held .position) * (length file + 2) ^ (depth - held) = rw k at (weight-top (length file) depth ks (held + 1) (omega arith)) in
-      let c : (length file + 1 - frameAt ks held .position) * (length file + 2) ^ (depth - held) ≡ (length file + 1) * (length file + 2) ^ (depth - held) = rw (t, zeroth, sub-zero) in
-      omega (arith, falls-on n due, unit-more (length file) depth held (o .some) fits)
+      let gs = set fs (depth - 1) (nextIn (frameAt fs (depth - 1))) in
+      let ks = set gs depth new in
+      let k : depth + 1 - 1 ≡ depth = omega arith in
+      let q : length gs ≡ maxOpen = stack-on file l root depth fs o n due .room in
+      let a = weight-same (length file) deepest ks gs depth (λ i h. getD-set-other gs depth i new noFrame (λ e. omega arith)) in
+      let t : frameAt ks depth ≡ new = getD-set-same gs depth new noFrame (omega arith) in
+      let b : weightOf ks (depth + 1) ≡ weightOf ks depth + (length file + 1 - frameAt ks depth .position) * (length file + 2) ^ (deepest - depth) = rw k at (weight-top (length file) deepest ks (depth + 1) (omega arith)) in
+      let c : (length file + 1 - frameAt ks depth .position) * (length file + 2) ^ (deepest - depth) ≡ (length file + 1) * (length file + 2) ^ (deepest - depth) = rw (t, zeroth, sub-zero) in
+      omega (arith, falls-on n due, unit-more (length file) deepest depth (o .some) fits)
 
   -- something is left while a container is open
-  weighs-some : 0 < weightOf fs held
+  weighs-some : 0 < weightOf fs depth
   weighs-some =
-      let b = weight-top (length file) depth fs held (o .some) in
-      omega (arith, weighs (length file) unit place few (unit-pos (length file) depth (held - 1)))
+      let b = weight-top (length file) deepest fs depth (o .some) in
+      omega (arith, weighs (length file) unit place few (unit-pos (length file) deepest (depth - 1)))
 
 -- the weight of a reader
 abbrev left : List ℕ → Reader → ℕ
-left file r = weight (length file) maxOpen (r .frames) (r .held)
+left file r = weight (length file) maxOpen (r .frames) (r .depth)
 
 -- the end: nothing more is handed out
 abbrev pub Final : Said → Type 0
-Final (event e offset) = ⊥
+Final (event e) = ⊥
 Final ended = Unit {0}
 Final (refused number values place) = Unit {0}
 
@@ -109,25 +110,25 @@ module _ (file : List ℕ) (r : Reader) (o : Open file r) where
   goes-to : (s : Reader) (a : Said) → nextOf file r ≡ step s a → Open file s → left file s < left file r → Goes file r
   goes-to s a e t h = less (rw e t) (rw e h)
 
-  closed-goes : (offset : ℕ) → nextOf file r ≡ step (closed r) (event EndCollection offset) → Goes file r
-  closed-goes offset e = go (same-or-not (r .held) 1)
+  closed-goes : (offset : ℕ) → nextOf file r ≡ step (closed r) (eventAt EndCollection offset) → Goes file r
+  closed-goes offset e = go (same-or-not (r .depth) 1)
     where
-      go : (r .held ≡ 1) ⊎ (r .held ≡ 1 → ⊥) → Goes file r
+      go : (r .depth ≡ 1) ⊎ (r .depth ≡ 1 → ⊥) → Goes file r
       go (inl q) = last (rw e (closed-last file r o q))
       go (inr d) =
-          let more : 1 < r .held = omega (arith, o .stack .some) in
-          goes-to (closed r) _ e (open-closed file r o more) (rw (closed-is file r o more) (falls-off file (o .layout) (o .root) (r .held) (r .frames) (o .stack) maxOpen (o .stack .few) more))
+          let more : 1 < r .depth = omega (arith, o .stack .some) in
+          goes-to (closed r) _ e (open-closed file r o more) (rw (closed-is file r o more) (falls-off file (o .layout) (o .root) (r .depth) (r .frames) (o .stack) maxOpen (o .stack .few) more))
 
   module _ (n : ℕ) (due : dueOf file (o .layout) (innermost r) ≡ Member n) where
     passed-less : (place : ℕ) → left file (passed r place) < left file r
     passed-less place =
         rw (passed-is file r o place)
-        (omega (arith, falls-on file (o .layout) (o .root) (r .held) (r .frames) (o .stack) maxOpen (o .stack .few) n (due-top file r o n due), unit-pos (length file) maxOpen (r .held - 1)))
+        (omega (arith, falls-on file (o .layout) (o .root) (r .depth) (r .frames) (o .stack) maxOpen (o .stack .few) n (due-top file r o n due), unit-pos (length file) maxOpen (r .depth - 1)))
 
-    entered-less : r .held < maxOpen → (k place : ℕ) → left file (entered r n k place) < left file r
+    entered-less : r .depth < maxOpen → (k place : ℕ) → left file (entered r n k place) < left file r
     entered-less below k place =
         rw (entered-is file r o n k place)
-        (falls-onto file (o .layout) (o .root) (r .held) (r .frames) (o .stack) maxOpen (o .stack .few) n (due-top file r o n due) below _ refl)
+        (falls-onto file (o .layout) (o .root) (r .depth) (r .frames) (o .stack) maxOpen (o .stack .few) n (due-top file r o n due) below _ refl)
 
   goes : Call file (o .layout) r → Goes file r
   goes (call.closing offset e) = closed-goes offset e
@@ -161,7 +162,7 @@ fuel-on file k n h (less o l) more = later (suc n + k) (n + suc k) (omega arith)
 -- so a reader with an open container ends within as many calls as it weighs
 fuel : (file : List ℕ) (k n : ℕ) → Open file (runs file n) → left file (runs file n) ≤ k → EndsBy file (n + k)
 fuel file zero n o h =
-    absurd (omega (arith, weighs-some file (o .layout) (o .root) (runs file n .held) (runs file n .frames) (o .stack) maxOpen (o .stack .few)))
+    absurd (omega (arith, weighs-some file (o .layout) (o .root) (runs file n .depth) (runs file n .frames) (o .stack) maxOpen (o .stack .few)))
 fuel file (suc k) n o h = fuel-on file k n h (goes file (runs file n) o (call.call file (runs file n) o)) (fuel file k (suc n))
 
 -- a root that was entered weighs less than the bound

@@ -7,14 +7,15 @@ use Prim.Native.Nat.{ℕ, suc, _≤_, _<_}
 use native.Mathlib.Omega.{arith}
 use lib.Dec.{lit≤}
 use lib.ListN.{length}
-use Rattle.reader.specs.Layout.{dueOf}
-use Rattle.reader.specs.Machine.{Said, event, ended, refused, Shape, array, dictionary, startOf}
+use Rattle.layout.specs.Layout.{dueOf}
+use Rattle.layout.specs.Looked.{Shape, array, dictionary, startOf}
+use Rattle.layout.specs.Trailer.{lays, eightAt, trailerOf}
+use Rattle.layout.specs.declared.layout.Due.the-variants.{Member}
+use Rattle.layout.specs.declared.layout.Layout.{Layout}
+use Rattle.reader.specs.Machine.{Said, event, ended, refused}
 use Rattle.reader.specs.Next.{nextOf}
 use Rattle.reader.specs.NextLaws.{next-ended}
 use Rattle.reader.specs.State.{maxOpen, maxLength, freshReader, endedReader, openOf, innermost}
-use Rattle.reader.specs.Trailer.{lays, eightAt, trailerOf}
-use Rattle.reader.specs.declared.layout.Due.the-variants.{Member}
-use Rattle.reader.specs.declared.layout.Layout.{Layout}
 use Rattle.reader.specs.declared.state.Reader.{Reader}
 use Rattle.claims.specs.Call as call
 use Rattle.claims.specs.Call.{Call, First, first}
@@ -32,12 +33,12 @@ pub record Recurs (file : List ℕ) (r : Reader) : Type 0 where
   pub says : trailerOf file ≡ lays layout root
   pub object : ℕ
   pub due : dueOf file layout (innermost r) ≡ Member object
-  pub at : At (r .frames) (r .held) object
+  pub at : At (r .frames) (r .depth) object
 
 -- as many containers are open as may be, and the file has more objects
 pub record Full (file : List ℕ) (r : Reader) : Type 0 where
-  pub held : maxOpen ≤ r .held
-  pub more : r .held < eightAt file 8
+  pub depth : maxOpen ≤ r .depth
+  pub more : r .depth < eightAt file 8
 
 -- a refusal has a number up to 15; 14 and 15 have their reason; and it ends the reader, unless that was fresh and still is
 pub record Refusing (file : List ℕ) (r s : Reader) (number : ℕ) : Type 0 where
@@ -48,7 +49,7 @@ pub record Refusing (file : List ℕ) (r s : Reader) (number : ℕ) : Type 0 whe
 
 -- an event comes of a file that isn't too long, and the bytes of data or text are given
 abbrev pub Fair : List ℕ → Reader → Reader → Said → Type 0
-Fair file r s (event e offset) = (length file ≤ maxLength) × Asks file e offset
+Fair file r s (event e) = (length file ≤ maxLength) × Asks file (e .event) (e .offset)
 Fair file r s ended = Unit {0}
 Fair file r s (refused number values place) = Refusing file r s number
 
@@ -71,7 +72,7 @@ module _ (file : List ℕ) where
       rw e
       (record {
         known = lit≤ tt;
-        recursive = λ q. record { layout = o .layout; root = o .root; says = o .says; object = n; due = d; at = member-at (r .frames) (r .held) n m };
+        recursive = λ q. record { layout = o .layout; root = o .root; says = o .says; object = n; due = d; at = member-at (r .frames) (r .depth) n m };
         deep = λ q. absurd (omega arith);
         settled = inl refl;
       })
@@ -80,7 +81,7 @@ module _ (file : List ℕ) where
       (record {
         known = lit≤ tt;
         recursive = λ q. absurd (omega arith);
-        deep = λ q. record { held = k; more = omega (arith, open-fewer file r o n h (not-open file r o n d m), count-is file r o) };
+        deep = λ q. record { depth = k; more = omega (arith, open-fewer file r o n h (not-open file r o n d m), count-is file r o) };
         settled = inl refl;
       })
   fair-open r o (call.entering n d m few s k offset look e) = rw e (o .short, start-asks file s k offset)

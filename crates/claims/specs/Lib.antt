@@ -4,11 +4,11 @@ pub mod Call
 pub mod Calls
 pub mod Depth
 pub mod Due
+pub mod Element
 pub mod Ended
 pub mod Ends
 pub mod Examples
 pub mod Fair
-pub mod Found
 pub mod Last
 pub mod Look
 pub mod Members
@@ -16,7 +16,10 @@ pub mod Open
 pub mod Pigeon
 pub mod Reached
 pub mod Recursion
+pub mod Refusal
 pub mod Stack
 pub mod Table
-pub mod TrailerLaws
 pub mod Weight
+pub mod WrongFile
+pub mod WrongFileLaws
+pub mod WrongRequestLaws

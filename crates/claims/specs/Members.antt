@@ -7,8 +7,9 @@ use native.Mathlib.Omega.{arith}
 use borrow.Author.Tests.{eqb-true, eq-eqb}
 use lib.Dec.{eqb}
 use lib.ListN.{length, getD, take}
-use Rattle.reader.specs.State.{noFrame, memberOf}
-use Rattle.reader.specs.declared.state.Frame.{Frame}
+use Rattle.layout.specs.Frame.{noFrame}
+use Rattle.layout.specs.declared.frame.Frame.{Frame}
+use Rattle.reader.specs.State.{memberOf}
 
 or-right : (b : Bool) → (b || true) ≡ true
 or-right true = refl

@@ -5,17 +5,18 @@ use mathlib.Core.Path.{_≡_}
 use Prim.Native.Nat.{ℕ, suc, _-_, _≤_, _<_}
 use lib.ListN.{length, getD}
 use Rattle.number.specs.Width.{bytesIn}
-use Rattle.reader.specs.Layout.{dueOf, lookOf}
-use Rattle.reader.specs.Machine.{container, Shape}
-use Rattle.reader.specs.State.{maxOpen, maxLength, noFrame, freshReader, endedReader}
-use Rattle.reader.specs.Trailer.{lays, trailerOf}
-use Rattle.reader.specs.declared.layout.Due.the-variants.{Member}
-use Rattle.reader.specs.declared.layout.Layout.{Layout}
-use Rattle.reader.specs.declared.state.Frame.{Frame}
+use Rattle.layout.specs.FoundLaws.{refsOf}
+use Rattle.layout.specs.LookLaws.{Laid, Standing}
+use Rattle.layout.specs.Layout.{dueOf, lookOf}
+use Rattle.layout.specs.Looked.{container, Shape}
+use Rattle.layout.specs.Frame.{atPosition, noFrame}
+use Rattle.layout.specs.Trailer.{lays, trailerOf}
+use Rattle.layout.specs.declared.layout.Due.the-variants.{Member}
+use Rattle.layout.specs.declared.layout.Layout.{Layout}
+use Rattle.layout.specs.declared.frame.Frame.{Frame}
+use Rattle.reader.specs.State.{maxOpen, maxLength, freshReader, endedReader}
 use Rattle.reader.specs.declared.state.Reader.{Reader}
 use Rattle.claims.specs.Due.{Pending, pending}
-use Rattle.claims.specs.Found.{refsOf}
-use Rattle.claims.specs.Look.{Laid, Standing}
 
 -- the frame at a depth, the outermost at 0
 abbrev pub frameAt : List Frame → ℕ → Frame
@@ -23,7 +24,7 @@ frameAt frames i = getD frames i noFrame
 
 -- a frame as it was before its last reference was handed out
 unfoldable pub before : Frame → Frame
-before f = record { object = f .object; position = f .position - 1; length = f .length }
+before f = atPosition f (f .position - 1)
 
 -- An open container: looking its object up gives a container of its length. So its object is below the count, its entry gives the offset
 -- at which that container stands, and its references lie within the file. Its position is not above their number
@@ -40,16 +41,16 @@ opened-pending {file} {l} {f} t = pending file l f (t .shape) (t .offset) (t .st
 
 -- The open containers, one at least: frames that aren't open are clear, the outermost container is the root, each other one is the
 -- reference that the one around it handed out last, and no object is open twice
-pub record Stack (file : List ℕ) (l : Layout) (root held : ℕ) (frames : List Frame) : Type 0 where
-  pub some : 0 < held
-  pub few : held ≤ maxOpen
+pub record Stack (file : List ℕ) (l : Layout) (root depth : ℕ) (frames : List Frame) : Type 0 where
+  pub some : 0 < depth
+  pub few : depth ≤ maxOpen
   pub room : length frames ≡ maxOpen
-  pub clear : (i : ℕ) → held ≤ i → frameAt frames i ≡ noFrame
-  pub opened : (i : ℕ) → i < held → Opened file l (frameAt frames i)
+  pub clear : (i : ℕ) → depth ≤ i → frameAt frames i ≡ noFrame
+  pub opened : (i : ℕ) → i < depth → Opened file l (frameAt frames i)
   pub outermost : frameAt frames 0 .object ≡ root
-  pub handed : (i : ℕ) → suc i < held → 0 < frameAt frames i .position
-  pub named : (i : ℕ) → suc i < held → dueOf file l (before (frameAt frames i)) ≡ Member (frameAt frames (suc i) .object)
-  pub distinct : (i j : ℕ) → i < j → j < held → frameAt frames i .object ≡ frameAt frames j .object → ⊥
+  pub handed : (i : ℕ) → suc i < depth → 0 < frameAt frames i .position
+  pub named : (i : ℕ) → suc i < depth → dueOf file l (before (frameAt frames i)) ≡ Member (frameAt frames (suc i) .object)
+  pub distinct : (i j : ℕ) → i < j → j < depth → frameAt frames i .object ≡ frameAt frames j .object → ⊥
 
 -- A reader with an open container: what it keeps of the file is what the trailer says, and the table ends at or before T
 pub record Open (file : List ℕ) (r : Reader) : Type 0 where
@@ -64,7 +65,7 @@ pub record Open (file : List ℕ) (r : Reader) : Type 0 where
   pub refs : r .refs ≡ bytesIn (layout .refs)
   pub count : r .count ≡ layout .count
   pub table : r .table ≡ layout .table
-  pub stack : Stack file layout root (r .held) (r .frames)
+  pub stack : Stack file layout root (r .depth) (r .frames)
 
 -- a reader after any number of calls: as it was at first, ended, or with an open container
 pub data Reached (file : List ℕ) (r : Reader) : Type 0 where

@@ -7,15 +7,17 @@ use Prim.Native.Nat.{ℕ, zero, suc, _+_, _-_, _≤_, _<_}
 use native.Mathlib.Omega.{arith}
 use borrow.Author.Tests.{eq-eqb, ne-eqb}
 use lib.ListN.{length, set}
-use Rattle.reader.specs.Layout.{dueOf, lookOf}
-use Rattle.reader.specs.Machine.{Step, container, Shape}
+use Rattle.layout.specs.Layout.{dueOf, lookOf}
+use Rattle.layout.specs.Looked.{container, Shape}
+use Rattle.layout.specs.Frame.{newFrame, noFrame, nextIn}
+use Rattle.layout.specs.Trailer.{lays, trailerOf}
+use Rattle.layout.specs.declared.layout.Due.the-variants.{Member}
+use Rattle.layout.specs.declared.layout.Layout.{Layout}
+use Rattle.layout.specs.declared.frame.Frame.{Frame}
+use Rattle.reader.specs.Machine.{Step}
 use Rattle.reader.specs.Next.{laidOut, nextOf}
 use Rattle.reader.specs.NextLaws.{next-ended}
-use Rattle.reader.specs.State.{maxOpen, maxLength, noFrame, freshReader, endedReader, moved, openOf, innermost, memberOf, nextIn, advanced, passed, entered, closed}
-use Rattle.reader.specs.Trailer.{lays, trailerOf}
-use Rattle.reader.specs.declared.layout.Due.the-variants.{Member}
-use Rattle.reader.specs.declared.layout.Layout.{Layout}
-use Rattle.reader.specs.declared.state.Frame.{Frame}
+use Rattle.reader.specs.State.{maxOpen, maxLength, freshReader, endedReader, moved, openOf, innermost, memberOf, advanced, passed, entered, closed}
 use Rattle.reader.specs.declared.state.Reader.{Reader}
 use Rattle.claims.specs.Call as call
 use Rattle.claims.specs.Call.{Call, First, first}
@@ -23,11 +25,11 @@ use Rattle.claims.specs.Calls.{runs}
 use Rattle.claims.specs.Members.{member-in}
 use Rattle.claims.specs.Open.{frameAt, Stack, Open, Reached, fresh, over, within}
 use Rattle.claims.specs.Stack.{same-or-not, before-next, next-position, on-top, on-object, stack-on, stack-off, opened-new, stack-onto, stack-root}
-use Rattle.claims.specs.TrailerLaws.{Laying, tells}
+use Rattle.layout.specs.TrailerLaws.{Laying, tells}
 
 module _ (file : List ℕ) (r : Reader) (o : Open file r) where
-  open-moved : (place held : ℕ) (frames : List Frame) → Stack file (o .layout) (o .root) held frames → Open file (moved r place held frames)
-  open-moved place held frames s =
+  open-moved : (place depth : ℕ) (frames : List Frame) → Stack file (o .layout) (o .root) depth frames → Open file (moved r place depth frames)
+  open-moved place depth frames s =
       record {
         old = o .old;
         sized = o .sized;
@@ -44,66 +46,66 @@ module _ (file : List ℕ) (r : Reader) (o : Open file r) where
       }
 
   abbrev nextTop : List Frame
-  nextTop = set (r .frames) (r .held - 1) (nextIn (frameAt (r .frames) (r .held - 1)))
+  nextTop = set (r .frames) (r .depth - 1) (nextIn (frameAt (r .frames) (r .depth - 1)))
 
   pub advanced-is : advanced r ≡ nextTop
   unfolding advanced innermost
-  advanced-is = rw (ne-eqb (r .held) 0 (λ e. omega arith))
+  advanced-is = rw (ne-eqb (r .depth) 0 (λ e. omega arith))
 
-  pub passed-is : (place : ℕ) → passed r place ≡ moved r place (r .held) nextTop
+  pub passed-is : (place : ℕ) → passed r place ≡ moved r place (r .depth) nextTop
   unfolding passed
-  passed-is place = rw (ne-eqb (r .held) 0 (λ e. omega arith), advanced-is)
+  passed-is place = rw (ne-eqb (r .depth) 0 (λ e. omega arith), advanced-is)
 
-  pub entered-is : (n k place : ℕ) → entered r n k place ≡ moved r place (r .held + 1) (set nextTop (r .held) (record { object = n; position = 0; length = k }))
+  pub entered-is : (n k place : ℕ) → entered r n k place ≡ moved r place (r .depth + 1) (set nextTop (r .depth) (newFrame n k))
   unfolding entered
   entered-is n k place = rw advanced-is
 
-  pub closed-is : 1 < r .held → closed r ≡ moved r (r .place) (r .held - 1) (set (r .frames) (r .held - 1) noFrame)
+  pub closed-is : 1 < r .depth → closed r ≡ moved r (r .place) (r .depth - 1) (set (r .frames) (r .depth - 1) noFrame)
   unfolding closed
-  closed-is h = rw (ne-eqb (r .held) 1 (λ e. omega arith))
+  closed-is h = rw (ne-eqb (r .depth) 1 (λ e. omega arith))
 
   module _ (n : ℕ) (due : dueOf file (o .layout) (innermost r) ≡ Member n) where
-    pub due-top : dueOf file (o .layout) (frameAt (r .frames) (r .held - 1)) ≡ Member n
+    pub due-top : dueOf file (o .layout) (frameAt (r .frames) (r .depth - 1)) ≡ Member n
     unfolding innermost
     due-top = due
 
-    on-stack : Stack file (o .layout) (o .root) (r .held) nextTop
-    on-stack = stack-on file (o .layout) (o .root) (r .held) (r .frames) (o .stack) n due-top
+    on-stack : Stack file (o .layout) (o .root) (r .depth) nextTop
+    on-stack = stack-on file (o .layout) (o .root) (r .depth) (r .frames) (o .stack) n due-top
 
     pub open-passed : (place : ℕ) → Open file (passed r place)
-    open-passed place = rw passed-is (open-moved place (r .held) nextTop on-stack)
+    open-passed place = rw passed-is (open-moved place (r .depth) nextTop on-stack)
 
     -- an object that isn't among the open ones
-    pub not-open : memberOf (openOf r) n ≡ false → (i : ℕ) → i < r .held → frameAt (r .frames) i .object ≡ n → ⊥
+    pub not-open : memberOf (openOf r) n ≡ false → (i : ℕ) → i < r .depth → frameAt (r .frames) i .object ≡ n → ⊥
     unfolding openOf
     not-open e i h q =
-        let m = member-in (r .frames) (r .held) n i h (omega arith) q in
+        let m = member-in (r .frames) (r .depth) n i h (omega arith) q in
         let z : _≡_ {A = ℕ} 0 1 = cc in
         omega arith
 
-    pub open-entered : memberOf (openOf r) n ≡ false → r .held < maxOpen → (s : Shape) (k offset : ℕ) → lookOf file (o .layout) n ≡ container s k offset → Open file (entered r n k offset)
+    pub open-entered : memberOf (openOf r) n ≡ false → r .depth < maxOpen → (s : Shape) (k offset : ℕ) → lookOf file (o .layout) n ≡ container s k offset → Open file (entered r n k offset)
     open-entered e few s k offset look =
         let fs = r .frames in
-        let t = on-top file (o .layout) (o .root) (r .held) fs (o .stack) n due-top in
-        rw entered-is (open-moved offset (r .held + 1) _
-        (stack-onto file (o .layout) (o .root) (r .held) nextTop on-stack (record { object = n; position = 0; length = k })
+        let t = on-top file (o .layout) (o .root) (r .depth) fs (o .stack) n due-top in
+        rw entered-is (open-moved offset (r .depth + 1) _
+        (stack-onto file (o .layout) (o .root) (r .depth) nextTop on-stack (newFrame n k)
         (opened-new file (o .layout) n s k offset look)
-        (λ i h q. not-open e i h (sym (on-object file (o .layout) (o .root) (r .held) fs (o .stack) n due-top i) ∙ q))
+        (λ i h q. not-open e i h (sym (on-object file (o .layout) (o .root) (r .depth) fs (o .stack) n due-top i) ∙ q))
         (rw (t, next-position) (omega arith))
         (rw (t, before-next) due-top)
         few))
 
-  pub open-closed : 1 < r .held → Open file (closed r)
-  open-closed h = rw (closed-is h) (open-moved (r .place) (r .held - 1) _ (stack-off file (o .layout) (o .root) (r .held) (r .frames) (o .stack) h))
+  pub open-closed : 1 < r .depth → Open file (closed r)
+  open-closed h = rw (closed-is h) (open-moved (r .place) (r .depth - 1) _ (stack-off file (o .layout) (o .root) (r .depth) (r .frames) (o .stack) h))
 
-  pub closed-last : r .held ≡ 1 → closed r ≡ endedReader
+  pub closed-last : r .depth ≡ 1 → closed r ≡ endedReader
   unfolding closed
   closed-last e = rw (eq-eqb _ _ e)
 
   reached-closed : Reached file (closed r)
-  reached-closed = go (same-or-not (r .held) 1)
+  reached-closed = go (same-or-not (r .depth) 1)
     where
-      go : (r .held ≡ 1) ⊎ (r .held ≡ 1 → ⊥) → Reached file (closed r)
+      go : (r .depth ≡ 1) ⊎ (r .depth ≡ 1 → ⊥) → Reached file (closed r)
       go (inl e) = over (closed-last e)
       go (inr d) = within (open-closed (omega (arith, o .stack .some)))
 

@@ -9,15 +9,16 @@ use borrow.Author.Tests.{eqb-true, eqb-false}
 use lib.Dec.{eqb, lit<, lit≤}
 use lib.ListN.{length, getD, set, replicate, length-set}
 use lib.Seq.{getD-set-same, getD-set-other}
-use Rattle.reader.specs.Layout.{dueOf, lookOf}
-use Rattle.reader.specs.Machine.{container, Shape}
-use Rattle.reader.specs.State.{maxOpen, noFrame, nextIn}
-use Rattle.reader.specs.declared.layout.Due.the-variants.{Member}
-use Rattle.reader.specs.declared.layout.Layout.{Layout}
-use Rattle.reader.specs.declared.state.Frame.{Frame}
+use Rattle.layout.specs.FoundLaws.{refsOf}
+use Rattle.layout.specs.LookLaws.{standing}
+use Rattle.layout.specs.Layout.{dueOf, lookOf}
+use Rattle.layout.specs.Looked.{container, Shape}
+use Rattle.layout.specs.Frame.{newFrame, atPosition, noFrame, nextIn}
+use Rattle.layout.specs.declared.layout.Due.the-variants.{Member}
+use Rattle.layout.specs.declared.layout.Layout.{Layout}
+use Rattle.layout.specs.declared.frame.Frame.{Frame}
+use Rattle.reader.specs.State.{maxOpen}
 use Rattle.claims.specs.Due.{Pending, end, reference}
-use Rattle.claims.specs.Found.{refsOf}
-use Rattle.claims.specs.Look.{looks}
 use Rattle.claims.specs.Open.{frameAt, before, Opened, opened-pending, Stack}
 
 pub same-or-not : (i j : ℕ) → (i ≡ j) ⊎ (i ≡ j → ⊥)
@@ -37,35 +38,35 @@ due-below file l f t n due = go (opened-pending t)
 
 pub before-next : (f : Frame) → before (nextIn f) ≡ f
 unfolding before nextIn
-before-next f = ap (λ (p : ℕ). record { object = f .object; position = p; length = f .length }) (let e : f .position + 1 - 1 ≡ f .position = omega arith in e)
+before-next f = ap (atPosition f) (let e : f .position + 1 - 1 ≡ f .position = omega arith in e)
 
 pub next-position : (f : Frame) → nextIn f .position ≡ f .position + 1
 unfolding nextIn
 next-position f = refl
 
-module _ (file : List ℕ) (l : Layout) (root held : ℕ) (frames : List Frame) (o : Stack file l root held frames) where
+module _ (file : List ℕ) (l : Layout) (root depth : ℕ) (frames : List Frame) (o : Stack file l root depth frames) where
   abbrev top : Frame
-  top = frameAt frames (held - 1)
+  top = frameAt frames (depth - 1)
 
   pub top-opened : Opened file l top
-  top-opened = o .opened (held - 1) (omega arith)
+  top-opened = o .opened (depth - 1) (omega arith)
 
   -- a reference was handed out
   module _ (n : ℕ) (due : dueOf file l top ≡ Member n) where
     abbrev on : List Frame
-    on = set frames (held - 1) (nextIn top)
+    on = set frames (depth - 1) (nextIn top)
 
-    pub on-top : frameAt on (held - 1) ≡ nextIn top
-    on-top = getD-set-same frames (held - 1) (nextIn top) noFrame (omega arith)
+    pub on-top : frameAt on (depth - 1) ≡ nextIn top
+    on-top = getD-set-same frames (depth - 1) (nextIn top) noFrame (omega arith)
 
-    pub on-other : (i : ℕ) → (i ≡ held - 1 → ⊥) → frameAt on i ≡ frameAt frames i
-    on-other i h = getD-set-other frames (held - 1) i (nextIn top) noFrame h
+    pub on-other : (i : ℕ) → (i ≡ depth - 1 → ⊥) → frameAt on i ≡ frameAt frames i
+    on-other i h = getD-set-other frames (depth - 1) i (nextIn top) noFrame h
 
     pub on-object : (i : ℕ) → frameAt on i .object ≡ frameAt frames i .object
     unfolding nextIn
-    on-object i = go (same-or-not i (held - 1))
+    on-object i = go (same-or-not i (depth - 1))
       where
-        go : (i ≡ held - 1) ⊎ (i ≡ held - 1 → ⊥) → frameAt on i .object ≡ frameAt frames i .object
+        go : (i ≡ depth - 1) ⊎ (i ≡ depth - 1 → ⊥) → frameAt on i .object ≡ frameAt frames i .object
         go (inl e) = rw (e, on-top)
         go (inr h) = rw (on-other i h)
 
@@ -75,14 +76,14 @@ module _ (file : List ℕ) (l : Layout) (root held : ℕ) (frames : List Frame) 
         let t = top-opened in
         record { shape = t .shape; offset = t .offset; look = t .look; standing = t .standing; within = omega (arith, due-below file l top t n due) }
 
-    opened-on : (i : ℕ) → i < held → Opened file l (frameAt on i)
-    opened-on i h = go (same-or-not i (held - 1))
+    opened-on : (i : ℕ) → i < depth → Opened file l (frameAt on i)
+    opened-on i h = go (same-or-not i (depth - 1))
       where
-        go : (i ≡ held - 1) ⊎ (i ≡ held - 1 → ⊥) → Opened file l (frameAt on i)
+        go : (i ≡ depth - 1) ⊎ (i ≡ depth - 1 → ⊥) → Opened file l (frameAt on i)
         go (inl e) = rw (e, on-top) opened-next
         go (inr k) = rw (on-other i k) (o .opened i h)
 
-    pub stack-on : Stack file l root held on
+    pub stack-on : Stack file l root depth on
     stack-on =
         record {
           some = o .some;
@@ -97,21 +98,21 @@ module _ (file : List ℕ) (l : Layout) (root held : ℕ) (frames : List Frame) 
         }
 
   -- the innermost container was closed, and another is open
-  module _ (more : 1 < held) where
+  module _ (more : 1 < depth) where
     abbrev off : List Frame
-    off = set frames (held - 1) noFrame
+    off = set frames (depth - 1) noFrame
 
-    pub off-other : (i : ℕ) → i < held - 1 → frameAt off i ≡ frameAt frames i
-    off-other i h = getD-set-other frames (held - 1) i noFrame noFrame (λ e. omega arith)
+    pub off-other : (i : ℕ) → i < depth - 1 → frameAt off i ≡ frameAt frames i
+    off-other i h = getD-set-other frames (depth - 1) i noFrame noFrame (λ e. omega arith)
 
-    clear-off : (i : ℕ) → held - 1 ≤ i → frameAt off i ≡ noFrame
-    clear-off i h = go (same-or-not i (held - 1))
+    clear-off : (i : ℕ) → depth - 1 ≤ i → frameAt off i ≡ noFrame
+    clear-off i h = go (same-or-not i (depth - 1))
       where
-        go : (i ≡ held - 1) ⊎ (i ≡ held - 1 → ⊥) → frameAt off i ≡ noFrame
-        go (inl e) = rw e (getD-set-same frames (held - 1) noFrame noFrame (omega arith))
-        go (inr d) = getD-set-other frames (held - 1) i noFrame noFrame d ∙ o .clear i (omega arith)
+        go : (i ≡ depth - 1) ⊎ (i ≡ depth - 1 → ⊥) → frameAt off i ≡ noFrame
+        go (inl e) = rw e (getD-set-same frames (depth - 1) noFrame noFrame (omega arith))
+        go (inr d) = getD-set-other frames (depth - 1) i noFrame noFrame d ∙ o .clear i (omega arith)
 
-    pub stack-off : Stack file l root (held - 1) off
+    pub stack-off : Stack file l root (depth - 1) off
     stack-off =
         record {
           some = omega arith;
@@ -126,51 +127,51 @@ module _ (file : List ℕ) (l : Layout) (root held : ℕ) (frames : List Frame) 
         }
 
 -- a container that was looked up, as it is entered
-pub opened-new : (file : List ℕ) (l : Layout) (n : ℕ) (s : Shape) (k offset : ℕ) → lookOf file l n ≡ container s k offset → Opened file l (record { object = n; position = 0; length = k })
-opened-new file l n s k offset look = record { shape = s; offset = offset; look = look; standing = rw look at (looks file l n); within = omega arith }
+pub opened-new : (file : List ℕ) (l : Layout) (n : ℕ) (s : Shape) (k offset : ℕ) → lookOf file l n ≡ container s k offset → Opened file l (newFrame n k)
+opened-new file l n s k offset look = record { shape = s; offset = offset; look = look; standing = standing file l n s k offset look; within = omega arith }
 
 -- a container was entered, the reference that the innermost one handed out last
-module _ (file : List ℕ) (l : Layout) (root held : ℕ) (frames : List Frame) (o : Stack file l root held frames) (new : Frame) (opened-it : Opened file l new)
-    (other : (i : ℕ) → i < held → frameAt frames i .object ≡ new .object → ⊥) (gone : 0 < frameAt frames (held - 1) .position)
-    (last : dueOf file l (before (frameAt frames (held - 1))) ≡ Member (new .object)) (below : held < maxOpen) where
+module _ (file : List ℕ) (l : Layout) (root depth : ℕ) (frames : List Frame) (o : Stack file l root depth frames) (new : Frame) (opened-it : Opened file l new)
+    (other : (i : ℕ) → i < depth → frameAt frames i .object ≡ new .object → ⊥) (gone : 0 < frameAt frames (depth - 1) .position)
+    (last : dueOf file l (before (frameAt frames (depth - 1))) ≡ Member (new .object)) (below : depth < maxOpen) where
   abbrev onto : List Frame
-  onto = set frames held new
+  onto = set frames depth new
 
-  pub onto-new : frameAt onto held ≡ new
-  onto-new = getD-set-same frames held new noFrame (omega arith)
+  pub onto-new : frameAt onto depth ≡ new
+  onto-new = getD-set-same frames depth new noFrame (omega arith)
 
-  pub onto-other : (i : ℕ) → (i ≡ held → ⊥) → frameAt onto i ≡ frameAt frames i
-  onto-other i h = getD-set-other frames held i new noFrame h
+  pub onto-other : (i : ℕ) → (i ≡ depth → ⊥) → frameAt onto i ≡ frameAt frames i
+  onto-other i h = getD-set-other frames depth i new noFrame h
 
-  opened-onto : (i : ℕ) → i < held + 1 → Opened file l (frameAt onto i)
-  opened-onto i h = go (same-or-not i held)
+  opened-onto : (i : ℕ) → i < depth + 1 → Opened file l (frameAt onto i)
+  opened-onto i h = go (same-or-not i depth)
     where
-      go : (i ≡ held) ⊎ (i ≡ held → ⊥) → Opened file l (frameAt onto i)
+      go : (i ≡ depth) ⊎ (i ≡ depth → ⊥) → Opened file l (frameAt onto i)
       go (inl e) = rw (e, onto-new) opened-it
       go (inr d) = rw (onto-other i d) (o .opened i (omega arith))
 
-  handed-onto : (i : ℕ) → suc i < held + 1 → 0 < frameAt onto i .position
-  handed-onto i h = rw (onto-other i (λ e. omega arith)) (go (same-or-not (suc i) held))
+  handed-onto : (i : ℕ) → suc i < depth + 1 → 0 < frameAt onto i .position
+  handed-onto i h = rw (onto-other i (λ e. omega arith)) (go (same-or-not (suc i) depth))
     where
-      go : (suc i ≡ held) ⊎ (suc i ≡ held → ⊥) → 0 < frameAt frames i .position
-      go (inl e) = let t : i ≡ held - 1 = omega arith in rw t gone
+      go : (suc i ≡ depth) ⊎ (suc i ≡ depth → ⊥) → 0 < frameAt frames i .position
+      go (inl e) = let t : i ≡ depth - 1 = omega arith in rw t gone
       go (inr d) = o .handed i (omega arith)
 
-  named-onto : (i : ℕ) → suc i < held + 1 → dueOf file l (before (frameAt onto i)) ≡ Member (frameAt onto (suc i) .object)
-  named-onto i h = rw (onto-other i (λ e. omega arith)) (go (same-or-not (suc i) held))
+  named-onto : (i : ℕ) → suc i < depth + 1 → dueOf file l (before (frameAt onto i)) ≡ Member (frameAt onto (suc i) .object)
+  named-onto i h = rw (onto-other i (λ e. omega arith)) (go (same-or-not (suc i) depth))
     where
-      go : (suc i ≡ held) ⊎ (suc i ≡ held → ⊥) → dueOf file l (before (frameAt frames i)) ≡ Member (frameAt onto (suc i) .object)
-      go (inl e) = let t : i ≡ held - 1 = omega arith in rw (e, onto-new, t) last
+      go : (suc i ≡ depth) ⊎ (suc i ≡ depth → ⊥) → dueOf file l (before (frameAt frames i)) ≡ Member (frameAt onto (suc i) .object)
+      go (inl e) = let t : i ≡ depth - 1 = omega arith in rw (e, onto-new, t) last
       go (inr d) = rw (onto-other (suc i) d) (o .named i (omega arith))
 
-  distinct-onto : (i j : ℕ) → i < j → j < held + 1 → frameAt onto i .object ≡ frameAt onto j .object → ⊥
-  distinct-onto i j a b e = go (same-or-not j held)
+  distinct-onto : (i j : ℕ) → i < j → j < depth + 1 → frameAt onto i .object ≡ frameAt onto j .object → ⊥
+  distinct-onto i j a b e = go (same-or-not j depth)
     where
-      go : (j ≡ held) ⊎ (j ≡ held → ⊥) → ⊥
+      go : (j ≡ depth) ⊎ (j ≡ depth → ⊥) → ⊥
       go (inl q) = other i (omega arith) (rw (onto-other i (λ w. omega arith), q, onto-new) at e)
       go (inr d) = o .distinct i j a (omega arith) (rw (onto-other i (λ w. omega arith), onto-other j d) at e)
 
-  pub stack-onto : Stack file l root (held + 1) onto
+  pub stack-onto : Stack file l root (depth + 1) onto
   stack-onto =
       record {
         some = omega arith;
@@ -190,9 +191,9 @@ blank (suc n) zero = refl
 blank (suc n) (suc i) = blank n i
 
 -- the root was entered
-module _ (file : List ℕ) (l : Layout) (root k : ℕ) (opened-root : Opened file l (record { object = root; position = 0; length = k })) where
+module _ (file : List ℕ) (l : Layout) (root k : ℕ) (opened-root : Opened file l (newFrame root k)) where
   abbrev rootFrame : Frame
-  rootFrame = record { object = root; position = 0; length = k }
+  rootFrame = newFrame root k
 
   pub stack-root : Stack file l root 1 (set (replicate maxOpen noFrame) 0 rootFrame)
   stack-root =

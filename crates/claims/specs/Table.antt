@@ -1,11 +1,10 @@
--- Document 01's cases of sizes and of reading, proved together: P1, P2 to P8 and P12.
-use mathlib.Core.List.{List, [], _∷_, map}
+-- The cases of sizes and of reading of docs/FORMAT.md, proved together: P1, P2 to P8 and P12.
+use mathlib.Core.List.{[], _∷_, map}
 use mathlib.Core.Path.{_≡_}
-use Prim.Native.Nat.{ℕ}
 use Rattle.number.specs.Cases.{p1}
 use Rattle.number.specs.Size.{sizeOf}
 use Rattle.reader.specs.Cases.{Case, cases, cases-right}
-use Rattle.reader.specs.Meanings.{Told, answers}
+use Rattle.reader.specs.Meanings.{answers}
 use Rattle.reader.specs.State.{freshReader}
 
 pub table :

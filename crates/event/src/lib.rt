@@ -1,6 +1,7 @@
 // What a property list says, one event at a time.
 pub mod limits;
 pub mod real;
+pub mod same;
 
 // A number that an i64 or a u64 holds. Two are compared by value.
 pub enum Integer {

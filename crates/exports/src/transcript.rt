@@ -1,13 +1,17 @@
 // A whole file onto a tape, with the ending as numbers.
-use reader::answer::number_of;
+use layout::refusal::Refusal;
+use layout::refusal::number_of;
 use transcribe::Ending;
 use transcribe::transcribe;
 ghost use mathlib.Core.Path.{_≡_};
+ghost use lib.ListN.{getD};
+ghost use Rattle.layout.specs.Said.{valuesOf};
 ghost use Rattle.transcribe.specs.Run.{transcriptOf};
 ghost use Rattle.transcribe.specs.Said.{endSaid};
-ghost use Rattle.exports.specs.Transcript.{endCode, endPlace};
+ghost use Rattle.exports.specs.Transcript.{endCode, endPlace, endMarker};
 
-// Answers how the transcript ends. `held` is then how many bytes of the tape are held, `place` the place of a refusal.
+// Answers how the transcript ends. `held` is then how many bytes of the tape are held, `place` the place of a refusal, `marker` the byte that
+// refusal 10 carries. Where there is none, 0.
 #[no_mangle]
 pub extern "C" fn zm_transcribe(
     file: &[u8],
@@ -16,10 +20,12 @@ pub extern "C" fn zm_transcribe(
     budget: u64,
     held: &mut u64,
     place: &mut u64,
+    marker: &mut u32,
 ) -> u32
     ensures { λ r. ⌜ r ≡ endCode (transcriptOf budget (now (file .entry)) (now (scratch .entry)) (now (tape .entry)) .ending) ⌝ }
     ensures { λ _. ⌜ now (held .exit) ≡ transcriptOf budget (now (file .entry)) (now (scratch .entry)) (now (tape .entry)) .held ⌝ }
     ensures { λ _. ⌜ now (place .exit) ≡ endPlace (transcriptOf budget (now (file .entry)) (now (scratch .entry)) (now (tape .entry)) .ending) ⌝ }
+    ensures { λ _. ⌜ now (marker .exit) ≡ endMarker (transcriptOf budget (now (file .entry)) (now (scratch .entry)) (now (tape .entry)) .ending) ⌝ }
     ensures { λ _. ⌜ now (tape .exit) ≡ transcriptOf budget (now (file .entry)) (now (scratch .entry)) (now (tape .entry)) .tape ⌝ }
     ensures { λ _. ⌜ now (scratch .exit) ≡ transcriptOf budget (now (file .entry)) (now (scratch .entry)) (now (tape .entry)) .scratch ⌝ }
 {
@@ -27,6 +33,7 @@ pub extern "C" fn zm_transcribe(
     let ending = transcript.ending;
     *held = transcript.held as u64;
     *place = end_place(ending);
+    *marker = end_marker(ending);
     end_code(ending)
 }
 
@@ -54,4 +61,27 @@ fn end_place(ending: Ending) -> u64
         Ending::BadText(place) => place,
         Ending::NoRoomForTape(place) => place,
     }
+}
+
+// 0 where no marker is refused.
+fn end_marker(ending: Ending) -> u32
+    ensures { λ r. ⌜ r ≡ endMarker (endSaid ending) ⌝ }
+{
+    match ending {
+        Ending::Ended => 0,
+        Ending::Stopped => 0,
+        Ending::Refused(refusal, _) => marker_of(refusal),
+        Ending::BadText(_) => 0,
+        Ending::NoRoomForTape(_) => 0,
+    }
+}
+
+// 10 alone carries a marker.
+fn marker_of(refusal: Refusal) -> u32
+    ensures { λ r. ⌜ r ≡ getD (valuesOf refusal) 0 0 ⌝ }
+{
+    let Refusal::UnknownObjectType(marker) = refusal else {
+        return 0;
+    };
+    marker as u32
 }

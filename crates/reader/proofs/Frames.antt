@@ -8,27 +8,28 @@ use native.Mathlib.Omega.{arith}
 use lib.Dec.{eqb}
 use lib.ListN.{length, getD, take, drop, drop-of-length-le, length-map, length-take}
 use lib.Seq.{drop-cons, getD-take}
-use Rattle.reader.specs.State.{memberOf, noFrame}
-use Rattle.reader.specs.declared.state.Frame.{Frame}
+use Rattle.layout.specs.Frame.{noFrame}
+use Rattle.layout.specs.declared.frame.Frame.{Frame}
+use Rattle.reader.specs.State.{memberOf}
 
 -- how long a field is that is an array of structs: what owning the struct tells of it, taken off the map under which it tells it
 pub unmapped : (X Y : Type 0) (f : X → Y) (l : List X) (n : ℕ) → length (map f l) ≡ n → length l ≡ n
 unmapped X Y f l n p = sym (length-map l f) ∙ p
 
-module _ (l : List Frame) (held n : ℕ) where
-  pub left-at : (i : ℕ) → i < held → i < length l → memberOf (drop i (take held l)) n ≡ (eqb (getD l i noFrame .object) n || memberOf (drop (i + 1) (take held l)) n)
+module _ (l : List Frame) (depth n : ℕ) where
+  pub left-at : (i : ℕ) → i < depth → i < length l → memberOf (drop i (take depth l)) n ≡ (eqb (getD l i noFrame .object) n || memberOf (drop (i + 1) (take depth l)) n)
   unfolding memberOf
   left-at i h k =
-      let z : i < length (take held l) = rw length-take (omega arith) in
-      rw (add-one i, drop-cons (take held l) i noFrame z, getD-take held l i noFrame h)
+      let z : i < length (take depth l) = rw length-take (omega arith) in
+      rw (add-one i, drop-cons (take depth l) i noFrame z, getD-take depth l i noFrame h)
 
-  pub left-none : (i : ℕ) → length (take held l) ≤ i → memberOf (drop i (take held l)) n ≡ false
+  pub left-none : (i : ℕ) → length (take depth l) ≤ i → memberOf (drop i (take depth l)) n ≡ false
   unfolding memberOf
-  left-none i h = rw (drop-of-length-le (take held l) {i = i} h)
+  left-none i h = rw (drop-of-length-le (take depth l) {i = i} h)
 
   -- behind the first so many, and behind all of them, nothing is left
-  pub taken : length (take held l) ≤ held
+  pub taken : length (take depth l) ≤ depth
   taken = rw length-take (omega arith)
 
-  pub all : length (take held l) ≤ length l
+  pub all : length (take depth l) ≤ length l
   all = rw length-take (omega arith)

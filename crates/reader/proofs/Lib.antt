@@ -1,12 +1,5 @@
-pub mod Counts
 pub mod Frames
 pub mod Inside
-pub mod Looks
-pub mod Magic
-pub mod Numbers
-pub mod Reach
-pub mod Short
-pub mod Split
-pub mod Stands
+pub mod One
 pub mod Steps
-pub mod Wide
+pub mod Utf16

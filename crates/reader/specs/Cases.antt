@@ -1,4 +1,4 @@
--- Document 01's cases of reading, in one table: what the first three calls on each file answer.
+-- The cases of reading of docs/FORMAT.md, P, in one table: what the first three calls on each file answer.
 use mathlib.Core.List.{List, [], _∷_, _++_, map}
 use mathlib.Core.Option.{some}
 use mathlib.Core.Path.{_≡_, refl}
@@ -15,13 +15,15 @@ use Rattle.object.specs.Container.{containerAt, containerOf}
 use Rattle.object.specs.Content.{contentAt, extentAt, roomFor, lengthWidth}
 use Rattle.object.specs.Kind.{kindOf}
 use Rattle.object.specs.Object.{objectAt, byKind, wideIn, dataIn, utf16In, arrayIn}
-use Rattle.reader.specs.Layout.{numberAt, entryAt, given, dueAt, inArray, dueIn, dueFrom, dueOf, lookIn, lookFrom, lookOf, sourceOf}
-use Rattle.reader.specs.Machine.{startOf, enter, arrive, follow, stepOf}
+use Rattle.layout.specs.Layout.{numberAt, entryAt, given, dueAt, inArray, dueIn, standsFrom, standsAt, dueOf, lookIn, lookFrom, lookOf, sourceOf}
+use Rattle.layout.specs.Looked.{startOf}
+use Rattle.layout.specs.Bytes.{dataAsked, textAsked, eventAsked}
+use Rattle.layout.specs.Frame.{nextIn}
+use Rattle.layout.specs.Trailer.{begins, eightAt, tableOf, refSizeOf, sizesOf, trailerOf}
+use Rattle.reader.specs.Machine.{enter, arrive, follow, stepOf}
 use Rattle.reader.specs.Meanings.{Told, means, ended, refused, answers, told, meaningAt, bytesAsked}
 use Rattle.reader.specs.Next.{laidOut, begin, withRefs, goOn, nextOf}
-use Rattle.reader.specs.Request.{dataAsked, textAsked, eventAsked}
-use Rattle.reader.specs.State.{freshReader, openOf, innermost, memberOf, advanced, passed, entered, nextIn, closed}
-use Rattle.reader.specs.Trailer.{begins, eightAt, tableOf, refSizeOf, sizesOf, trailerOf}
+use Rattle.reader.specs.State.{freshReader, openOf, innermost, memberOf, advanced, passed, entered, closed}
 
 -- a number below 256 in 8 bytes, and a trailer with sizes of 1 byte: count, root 0, table offset
 abbrev eight : ℕ → List ℕ
@@ -57,7 +59,7 @@ cases =
     []
 
 pub cases-right : map (λ (c : Case). answers 3 (c .file) freshReader) cases ≡ map (λ (c : Case). c .answer) cases
-unfolding be onto signedOf widthOf bytesIn isUtf16 isEven paired unitsOf isHigh isLow toUtf8 utf8 utf8Of scalars16 meaningOf valueOf givenOf containerAt containerOf contentAt extentAt roomFor lengthWidth kindOf objectAt byKind wideIn dataIn utf16In arrayIn numberAt entryAt given dueAt inArray dueIn dueFrom dueOf lookIn lookFrom lookOf sourceOf startOf enter arrive follow stepOf answers told meaningAt bytesAsked laidOut begin withRefs goOn nextOf dataAsked textAsked eventAsked openOf innermost memberOf advanced passed entered nextIn magic begins eightAt tableOf refSizeOf sizesOf trailerOf
+unfolding be onto signedOf widthOf bytesIn isUtf16 isEven paired unitsOf isHigh isLow toUtf8 utf8 utf8Of scalars16 meaningOf valueOf givenOf containerAt containerOf contentAt extentAt roomFor lengthWidth kindOf objectAt byKind wideIn dataIn utf16In arrayIn numberAt entryAt given dueAt inArray dueIn standsFrom standsAt dueOf lookIn lookFrom lookOf sourceOf startOf enter arrive follow stepOf answers told meaningAt bytesAsked laidOut begin withRefs goOn nextOf dataAsked textAsked eventAsked openOf innermost memberOf advanced passed entered nextIn magic begins eightAt tableOf refSizeOf sizesOf trailerOf
 cases-right = refl
 
 -- n arrays, each inside the last, from 8 on, and the table of their offsets
@@ -72,11 +74,11 @@ offsets (suc n) at = at ∷ offsets n (at + 2)
 abbrev nested : ℕ → List ℕ
 nested n = magic ++ inside n 1 ++ offsets n 8 ++ trailer (n + 1) (9 + 2 * n)
 
--- "64 arrays, each inside the last, are read .. with 65 both give 15 at the 65th (its offset ..)"
+-- the case "depth": 64 arrays, each in the one before, are read; with 65, 15 comes at the offset of the 65th
 pub deep-64 : drop 63 (answers 65 (nested 63) freshReader) ≡ means (array (some 0)) 134 ∷ means close 134 ∷ []
-unfolding be onto widthOf bytesIn meaningOf valueOf givenOf containerAt containerOf contentAt extentAt roomFor lengthWidth kindOf objectAt byKind arrayIn numberAt entryAt given dueAt inArray dueIn dueFrom dueOf lookIn lookFrom lookOf sourceOf startOf enter arrive follow stepOf answers told meaningAt bytesAsked laidOut begin withRefs goOn nextOf eventAsked openOf innermost memberOf advanced passed entered nextIn magic begins eightAt tableOf refSizeOf sizesOf trailerOf closed
+unfolding be onto widthOf bytesIn meaningOf valueOf givenOf containerAt containerOf contentAt extentAt roomFor lengthWidth kindOf objectAt byKind arrayIn numberAt entryAt given dueAt inArray dueIn standsFrom standsAt dueOf lookIn lookFrom lookOf sourceOf startOf enter arrive follow stepOf answers told meaningAt bytesAsked laidOut begin withRefs goOn nextOf eventAsked openOf innermost memberOf advanced passed entered nextIn magic begins eightAt tableOf refSizeOf sizesOf trailerOf closed
 deep-64 = refl
 
 pub deep-65 : drop 63 (answers 66 (nested 64) freshReader) ≡ means (array (some 1)) 134 ∷ refused 15 [] 136 ∷ ended ∷ []
-unfolding be onto widthOf bytesIn meaningOf valueOf givenOf containerAt containerOf contentAt extentAt roomFor lengthWidth kindOf objectAt byKind arrayIn numberAt entryAt given dueAt inArray dueIn dueFrom dueOf lookIn lookFrom lookOf sourceOf startOf enter arrive follow stepOf answers told meaningAt bytesAsked laidOut begin withRefs goOn nextOf eventAsked openOf innermost memberOf advanced passed entered nextIn magic begins eightAt tableOf refSizeOf sizesOf trailerOf closed
+unfolding be onto widthOf bytesIn meaningOf valueOf givenOf containerAt containerOf contentAt extentAt roomFor lengthWidth kindOf objectAt byKind arrayIn numberAt entryAt given dueAt inArray dueIn standsFrom standsAt dueOf lookIn lookFrom lookOf sourceOf startOf enter arrive follow stepOf answers told meaningAt bytesAsked laidOut begin withRefs goOn nextOf eventAsked openOf innermost memberOf advanced passed entered nextIn magic begins eightAt tableOf refSizeOf sizesOf trailerOf closed
 deep-65 = refl

@@ -1,6 +1,4 @@
 pub mod Cases
-pub mod FoundLaws
-pub mod Layout
 pub mod Machine
 pub mod Meanings
 pub mod Next
@@ -9,4 +7,3 @@ pub mod Request
 pub mod Said
 pub mod SaidLaws
 pub mod State
-pub mod Trailer

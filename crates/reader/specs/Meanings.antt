@@ -5,16 +5,17 @@ use Rattle.unicode.specs.Unicode.{toUtf8}
 use Rattle.event.specs.Meaning.{Meaning, meaningOf}
 use Rattle.event.specs.declared.Event.{Event}
 use Rattle.object.specs.Content.{part}
+use Rattle.layout.specs.Bytes.{Asked, inFile, inUtf16, noBytes, denied, eventAsked}
 use Rattle.reader.specs.Machine as Machine
 use Rattle.reader.specs.Machine.{Said}
 use Rattle.reader.specs.Next.{nextOf}
-use Rattle.reader.specs.Request.{Asked, inFile, wide, denied, eventAsked}
 use Rattle.reader.specs.declared.state.Reader.{Reader}
 
 -- the bytes of data or text that stand in a file
 unfoldable pub bytesAsked : List ℕ → Asked → List ℕ
 bytesAsked file (inFile start n) = part file start n
-bytesAsked file (wide start n) = toUtf8 (part file start n)
+bytesAsked file (inUtf16 start n) = toUtf8 (part file start n)
+bytesAsked file noBytes = []
 bytesAsked file (denied number values) = []
 
 -- what an event that was handed out with an offset means
@@ -28,7 +29,7 @@ pub data Told : Type 0 where
   refused : ℕ → List ℕ → ℕ → Told
 
 unfoldable pub told : List ℕ → Said → Told
-told file (Machine.event e offset) = means (meaningAt file e offset) offset
+told file (Machine.event r) = means (meaningAt file (r .event) (r .offset)) (r .offset)
 told file Machine.ended = ended
 told file (Machine.refused number values place) = refused number values place
 

@@ -1,4 +1,4 @@
--- One call of a reader, on any file and any state.
+-- One call of a reader, on any file and any state. docs/FORMAT.md, rules R6, R7 and R18 to R24.
 use mathlib.Core.Bool.{false, cond, not, _&&_}
 use mathlib.Core.List.{List, []}
 use Prim.Native.Nat.{ℕ}
@@ -8,20 +8,21 @@ use Rattle.number.specs.Width.{bytesIn, widthOf}
 use Rattle.number.specs.declared.width.Size.{Size}
 use Rattle.number.specs.declared.width.Size.the-variants.{Allowed, NotAllowed}
 use Rattle.number.specs.declared.width.Width.{Width}
-use Rattle.reader.specs.Layout.{lookOf, sourceOf}
+use Rattle.layout.specs.Layout.{lookOf, sourceOf}
+use Rattle.layout.specs.Frame.{noFrame}
+use Rattle.layout.specs.Trailer.{Trailer, keeps, ends, lays, trailerOf}
+use Rattle.layout.specs.declared.layout.Layout.{Layout}
 use Rattle.reader.specs.Machine.{Step, ended, refused, step, refuse, wrongFile, arrive, stepOf}
-use Rattle.reader.specs.State.{maxOpen, maxLength, noFrame}
-use Rattle.reader.specs.Trailer.{Trailer, keeps, ends, lays, trailerOf}
-use Rattle.reader.specs.declared.layout.Layout.{Layout}
+use Rattle.reader.specs.State.{maxOpen, maxLength}
 use Rattle.reader.specs.declared.state.Reader.{Reader}
 
--- Document 01: 1 leaves the state "unchanged" and carries the place 0
+-- 1 leaves the state as it was (R24)
 abbrev pub tooLong : Reader → Step
 tooLong r = step r (refused 1 [] 0)
 
 -- a reader that has read a trailer and opened nothing; its place is the table's offset, which was sought last
 unfoldable pub laidOut : List ℕ → Layout → Reader
-laidOut file l = record { fresh = false; length = length file; offsets = bytesIn (l .offsets); refs = bytesIn (l .refs); count = l .count; table = l .table; place = l .table; held = 0; frames = replicate maxOpen noFrame }
+laidOut file l = record { fresh = false; length = length file; offsets = bytesIn (l .offsets); refs = bytesIn (l .refs); count = l .count; table = l .table; place = l .table; depth = 0; frames = replicate maxOpen noFrame }
 
 -- the first call: the trailer, then the root
 unfoldable pub begin : List ℕ → Reader → Trailer → Step
@@ -38,13 +39,12 @@ unfoldable pub goOn : List ℕ → Reader → Size → Size → Step
 goOn file r (Allowed offsets) refs = withRefs file r offsets refs
 goOn file r NotAllowed refs = wrongFile r
 
--- Document 01: "Order: a state that isn't fresh and has nothing open answers Ended whatever is lent; then 1; then, unless it is fresh, 17,
--- exactly when the state's file length differs, it claims over 64 open, its sizes aren't allowed ones, the innermost open object .."
+-- the order of R21
 unfoldable pub nextOf : List ℕ → Reader → Step
 nextOf file r =
-    cond (not (r .fresh) && eqb (r .held) 0) (step r ended)
+    cond (not (r .fresh) && eqb (r .depth) 0) (step r ended)
     (cond (ltb maxLength (length file)) (tooLong r)
     (cond (r .fresh) (begin file r (trailerOf file))
     (cond (not (eqb (r .length) (length file))) (wrongFile r)
-    (cond (ltb maxOpen (r .held)) (wrongFile r)
+    (cond (ltb maxOpen (r .depth)) (wrongFile r)
     (goOn file r (widthOf (r .offsets)) (widthOf (r .refs)))))))

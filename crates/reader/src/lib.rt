@@ -1,8 +1,5 @@
-// The reader: trailer, offset table, open containers, one event a call.
+// The reader: open containers, one event a call, and the text request.
 pub mod answer;
-pub mod layout;
-pub mod lookup;
 pub mod request;
 pub mod state;
 pub mod step;
-pub mod trailer;

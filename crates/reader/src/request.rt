@@ -1,33 +1,34 @@
-// The text request: the bytes of a data or text record, from the file or from lent scratch.
+// The text request: the bytes of a record, from the file or from lent scratch. Data and text have some; of other records it is only asked
+// whether the file gives them.
 use crate::answer::Record;
-use crate::answer::Refusal;
 use crate::state::Reader;
 use event::Event;
+use event::Length;
+use event::same::is_same;
+use layout::lookup::Asked;
+use layout::refusal::Refusal;
 use number::width::Width;
+use object::container::Container;
+use object::container::container_at;
 use object::read::Object;
-use object::read::Part;
 use object::read::object_at;
 use unicode::changed::Changed;
 use unicode::utf16::Utf8Length;
 use unicode::utf16::utf8_length;
 use unicode::utf16::utf16_to_utf8;
 ghost use mathlib.Core.Path.{_≡_};
-ghost use Rattle.reader.specs.Request.{askedOf, dataAsked, textAsked, lengthSaid, scratchAfter, partSaid};
-ghost use Rattle.reader.specs.Said.{askedSaid, textSaid};
+ghost use Rattle.layout.specs.Bytes.{dataAsked, textAsked, givenIf, scalarAsked, startAsked, endAsked};
+ghost use Rattle.layout.specs.Said.{askedSaid};
+ghost use Rattle.reader.specs.Request.{askedOf, lengthSaid, scratchAfter, partSaid};
+ghost use Rattle.reader.specs.Said.{textSaid};
+ghost use Rattle.object.specs.Container.{containerAt};
 ghost use Rattle.object.specs.Object.{objectAt};
 ghost use Rattle.number.specs.declared.width.Width.the-variants.{One};
 
-// How many bytes a record's data or text has; a refusal comes with its place.
+// How many bytes a record's data or text has, 0 for any other record; a refusal comes with its place.
 pub enum TextLength {
     Length(u64),
     Refused(Refusal, u64),
-}
-
-// Where the bytes stand: in the file as they are, in the file as UTF-16, or nowhere.
-pub enum Asked {
-    InFile(Part),
-    Wide(Part),
-    Denied(Refusal),
 }
 
 // The first call: the length, with UTF-16 text changed to UTF-8 at the start of the scratch.
@@ -37,7 +38,7 @@ pub fn text_length(file: &[u8], scratch: &mut [u8], handed: Record) -> TextLengt
 {
     match asked_for(file, handed) {
         Asked::InFile(part) => TextLength::Length(part.length as u64),
-        Asked::Wide(part) => {
+        Asked::InUtf16(part) => {
             let start = part.start;
             let length = part.length;
             match utf16_to_utf8(&file[start..start + length], scratch) {
@@ -47,6 +48,7 @@ pub fn text_length(file: &[u8], scratch: &mut [u8], handed: Record) -> TextLengt
                 Changed::NotText => TextLength::Refused(Refusal::WrongFile, 0),
             }
         }
+        Asked::NoBytes => TextLength::Length(0),
         Asked::Denied(refusal) => TextLength::Refused(refusal, 0),
     }
 }
@@ -61,7 +63,7 @@ pub fn text_part<'a>(file: &'a [u8], scratch: &'a [u8], handed: Record) -> &'a [
             let end = start + part.length;
             &file[start..end]
         }
-        Asked::Wide(part) => {
+        Asked::InUtf16(part) => {
             let start = part.start;
             let end = start + part.length;
             let Utf8Length::Bytes(bytes) = utf8_length(&file[start..end]) else {
@@ -72,6 +74,7 @@ pub fn text_part<'a>(file: &'a [u8], scratch: &'a [u8], handed: Record) -> &'a [
             }
             &scratch[..bytes]
         }
+        Asked::NoBytes => &scratch[..0],
         Asked::Denied(_) => &scratch[..0],
     }
 }
@@ -88,15 +91,15 @@ fn asked_for(file: &[u8], handed: Record) -> Asked
     match event {
         Event::Data => data_at(file, at),
         Event::String => text_at(file, at),
-        Event::StartArray(_) => Asked::Denied(Refusal::WrongFile),
-        Event::StartDictionary(_) => Asked::Denied(Refusal::WrongFile),
-        Event::EndCollection => Asked::Denied(Refusal::WrongFile),
-        Event::Boolean(_) => Asked::Denied(Refusal::WrongFile),
-        Event::Date(_) => Asked::Denied(Refusal::WrongFile),
-        Event::Integer(_) => Asked::Denied(Refusal::WrongFile),
-        Event::Real(_) => Asked::Denied(Refusal::WrongFile),
-        Event::Nan(_) => Asked::Denied(Refusal::WrongFile),
-        Event::Uid(_) => Asked::Denied(Refusal::WrongFile),
+        Event::StartArray(_) => start_at(file, at, event),
+        Event::StartDictionary(_) => start_at(file, at, event),
+        Event::EndCollection => end_at(file, at),
+        Event::Boolean(_) => scalar_at(file, at, event),
+        Event::Date(_) => scalar_at(file, at, event),
+        Event::Integer(_) => scalar_at(file, at, event),
+        Event::Real(_) => scalar_at(file, at, event),
+        Event::Nan(_) => scalar_at(file, at, event),
+        Event::Uid(_) => scalar_at(file, at, event),
     }
 }
 
@@ -120,12 +123,66 @@ fn text_at(file: &[u8], at: usize) -> Asked
 {
     match object_at(file, Width::One, at) {
         Object::Utf8(part) => Asked::InFile(part),
-        Object::Utf16(part) => Asked::Wide(part),
+        Object::Utf16(part) => Asked::InUtf16(part),
         Object::Outside => Asked::Denied(Refusal::WrongFile),
         Object::Refused(_) => Asked::Denied(Refusal::WrongFile),
         Object::Scalar(_) => Asked::Denied(Refusal::WrongFile),
         Object::Data(_) => Asked::Denied(Refusal::WrongFile),
         Object::Array(_) => Asked::Denied(Refusal::WrongFile),
         Object::Dictionary(_) => Asked::Denied(Refusal::WrongFile),
+    }
+}
+
+// A scalar without bytes: reading gives that event.
+fn scalar_at(file: &[u8], at: usize, event: Event) -> Asked
+    ensures { λ r. ⌜ askedSaid r ≡ scalarAsked event (objectAt (now (file .entry)) One at) ⌝ }
+{
+    match object_at(file, Width::One, at) {
+        Object::Scalar(found) => given_if(is_same(event, found)),
+        Object::Outside => Asked::Denied(Refusal::WrongFile),
+        Object::Refused(_) => Asked::Denied(Refusal::WrongFile),
+        Object::Data(_) => Asked::Denied(Refusal::WrongFile),
+        Object::Utf8(_) => Asked::Denied(Refusal::WrongFile),
+        Object::Utf16(_) => Asked::Denied(Refusal::WrongFile),
+        Object::Array(_) => Asked::Denied(Refusal::WrongFile),
+        Object::Dictionary(_) => Asked::Denied(Refusal::WrongFile),
+    }
+}
+
+// A container's start: one of that kind and length stands there.
+fn start_at(file: &[u8], at: usize, event: Event) -> Asked
+    ensures { λ r. ⌜ askedSaid r ≡ startAsked event (containerAt (now (file .entry)) at) ⌝ }
+{
+    match container_at(file, at) {
+        Container::NoContainer => Asked::Denied(Refusal::WrongFile),
+        Container::Array(extent) => {
+            let start = Event::StartArray(Length::Given(extent.count));
+            given_if(is_same(event, start))
+        }
+        Container::Dictionary(extent) => {
+            let start = Event::StartDictionary(Length::Given(extent.count));
+            given_if(is_same(event, start))
+        }
+    }
+}
+
+// A container's end: one stands there.
+fn end_at(file: &[u8], at: usize) -> Asked
+    ensures { λ r. ⌜ askedSaid r ≡ endAsked (containerAt (now (file .entry)) at) ⌝ }
+{
+    match container_at(file, at) {
+        Container::NoContainer => Asked::Denied(Refusal::WrongFile),
+        Container::Array(_) => Asked::NoBytes,
+        Container::Dictionary(_) => Asked::NoBytes,
+    }
+}
+
+fn given_if(given: bool) -> Asked
+    ensures { λ r. ⌜ askedSaid r ≡ givenIf given ⌝ }
+{
+    if given {
+        Asked::NoBytes
+    } else {
+        Asked::Denied(Refusal::WrongFile)
     }
 }

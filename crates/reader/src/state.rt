@@ -1,14 +1,8 @@
 // The reader's state: it goes in by value and comes back by value.
+use layout::frame::Frame;
 ghost use mathlib.Core.Path.{_≡_};
 ghost use lib.ListN.{take};
 ghost use Rattle.reader.specs.State.{maxOpen, maxLength, freshReader, endedReader, memberOf};
-
-// An open container: its object's number, how many of its references were handed out, its number of elements or pairs.
-pub struct Frame {
-    pub object: u32,
-    pub position: u32,
-    pub length: u32,
-}
 
 // What a reader keeps between calls: the file's length; from its trailer the sizes of offsets and references, the number of objects and
 // where the offset table begins; the last offset sought; the open containers. Of a fresh reader only the flag counts.
@@ -20,16 +14,8 @@ pub struct Reader {
     pub count: u32,
     pub table: u32,
     pub place: u64,
-    pub held: usize,
+    pub depth: usize,
     pub frames: [Frame; Reader::MAX_OPEN],
-}
-
-impl Frame {
-    pub const NONE: Frame = Frame {
-        object: 0,
-        position: 0,
-        length: 0,
-    };
 }
 
 impl Reader {
@@ -45,7 +31,7 @@ impl Reader {
         count: 0,
         table: 0,
         place: 0,
-        held: 0,
+        depth: 0,
         frames: [Frame::NONE; Reader::MAX_OPEN],
     };
 
@@ -58,7 +44,7 @@ impl Reader {
         count: 0,
         table: 0,
         place: 0,
-        held: 0,
+        depth: 0,
         frames: [Frame::NONE; Reader::MAX_OPEN],
     };
 
@@ -89,12 +75,12 @@ impl Reader {
 }
 
 // Whether an object is among the first so many frames.
-pub fn is_open(frames: [Frame; Reader::MAX_OPEN], held: usize, object: u32) -> bool
-    ensures { λ r. ⌜ r ≡ memberOf (take held frames) object ⌝ }
+pub fn is_open(frames: [Frame; Reader::MAX_OPEN], depth: usize, object: u32) -> bool
+    ensures { λ r. ⌜ r ≡ memberOf (take depth frames) object ⌝ }
 {
     let mut i = 0;
     while i < Reader::MAX_OPEN {
-        if held <= i {
+        if depth <= i {
             return false;
         }
         if frames[i].object == object {

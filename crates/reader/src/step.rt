@@ -1,32 +1,34 @@
 // One call of a reader: the next event, the end, or a refusal.
 use crate::answer::Answer;
 use crate::answer::Record;
-use crate::answer::Refusal;
 use crate::answer::Stepped;
-use crate::layout::Due;
-use crate::layout::Layout;
-use crate::layout::due_at;
-use crate::lookup::Look;
-use crate::lookup::look_up;
-use crate::lookup::start_of;
-use crate::state::Frame;
 use crate::state::Reader;
 use crate::state::is_open;
-use crate::trailer::TrailerRead;
-use crate::trailer::trailer_of;
 use event::Event;
+use layout::frame::Frame;
+use layout::layout::Due;
+use layout::layout::Layout;
+use layout::layout::due_at;
+use layout::lookup::Look;
+use layout::lookup::look_up;
+use layout::lookup::start_of;
+use layout::refusal::Refusal;
+use layout::refusal::number_of;
+use layout::trailer::TrailerRead;
+use layout::trailer::trailer_of;
 use number::width::Size;
 use number::width::bytes_in;
 use number::width::width_of;
 ghost use mathlib.Core.Path.{_≡_};
 ghost use Prim.Native.Nat.{_≤_};
 ghost use lib.ListN.{length};
-ghost use Rattle.reader.specs.Layout.{lookOf};
-ghost use Rattle.reader.specs.Machine.{step, event as saidEvent, refused, refuse, arrive};
+ghost use Rattle.layout.specs.Layout.{lookOf};
+ghost use Rattle.layout.specs.Said.{numberOf, valuesOf};
+ghost use Rattle.layout.specs.Trailer.{trailerIn};
+ghost use Rattle.reader.specs.Machine.{step, eventAt, refused, refuse, refusedIn, arrive};
 ghost use Rattle.reader.specs.Next.{laidOut, begin as beginSaid, nextOf};
-ghost use Rattle.reader.specs.Said.{said, stepSaid, numberOf, valuesOf};
+ghost use Rattle.reader.specs.Said.{said, stepSaid};
 ghost use Rattle.reader.specs.State.{maxLength};
-ghost use Rattle.reader.specs.Trailer.{trailerIn};
 
 // A refusal that ends the reader.
 fn ended(refusal: Refusal, place: u64) -> Stepped
@@ -40,7 +42,7 @@ fn ended(refusal: Refusal, place: u64) -> Stepped
 
 // An event that is handed out.
 fn handed(event: Event, offset: u64) -> Answer
-    ensures { λ a. ⌜ said a ≡ saidEvent event offset ⌝ }
+    ensures { λ a. ⌜ said a ≡ eventAt event offset ⌝ }
 {
     Answer::Handed(Record { event, offset })
 }
@@ -54,27 +56,27 @@ impl Reader {
         if self.fresh {
             return self.begin(file);
         }
-        let held = self.held;
-        if held == 0 {
+        let depth = self.depth;
+        if depth == 0 {
             return Stepped {
                 reader: self,
                 answer: Answer::Ended,
             };
         }
         if Reader::MAX_LENGTH < file.len() {
-            return self.kept(Refusal::TooLong);
+            return self.kept(Refusal::TooLong, 0);
         }
         if self.length as usize != file.len() {
-            return self.kept(Refusal::WrongFile);
+            return self.kept(Refusal::WrongFile, 0);
         }
-        if Reader::MAX_OPEN < held {
-            return self.kept(Refusal::WrongFile);
+        if Reader::MAX_OPEN < depth {
+            return self.kept(Refusal::WrongFile, 0);
         }
         let Size::Allowed(offsets) = width_of(self.offsets) else {
-            return self.kept(Refusal::WrongFile);
+            return self.kept(Refusal::WrongFile, 0);
         };
         let Size::Allowed(refs) = width_of(self.refs) else {
-            return self.kept(Refusal::WrongFile);
+            return self.kept(Refusal::WrongFile, 0);
         };
         let layout = Layout {
             offsets,
@@ -82,10 +84,10 @@ impl Reader {
             count: self.count,
             table: self.table,
         };
-        let top = held - 1;
+        let top = depth - 1;
         match due_at(file, layout, self.frames[top]) {
             Due::Wrong => {
-                return self.kept(Refusal::WrongFile);
+                return self.kept(Refusal::WrongFile, 0);
             }
             Due::Close(offset) => {
                 if top == 0 {
@@ -95,21 +97,15 @@ impl Reader {
                     };
                 }
                 self.frames[top] = Frame::NONE;
-                self.held = top;
+                self.depth = top;
                 return Stepped {
                     reader: self,
                     answer: handed(Event::EndCollection, offset),
                 };
             }
-            Due::Member(object) => match look_up(file, layout, object) {
-                Look::Barred(refusal) => {
-                    return ended(refusal, self.place);
-                }
-                Look::Missing => {
-                    return self.kept(Refusal::WrongFile);
-                }
-                Look::Faulty(refusal, offset) => {
-                    return ended(refusal, offset);
+            Due::Member(object) => match look_up(file, layout, object, self.place) {
+                Look::Refused(refusal, place) => {
+                    return self.refused(refusal, place);
                 }
                 Look::Scalar(event, _, offset) => {
                     self.frames[top].position = self.frames[top].position + 1;
@@ -121,19 +117,19 @@ impl Reader {
                 }
                 Look::Container(shape, length, offset) => {
                     let number = object as u32;
-                    if is_open(self.frames, held, number) {
+                    if is_open(self.frames, depth, number) {
                         return ended(Refusal::RecursiveObject, offset);
                     }
-                    if Reader::MAX_OPEN <= held {
+                    if Reader::MAX_OPEN <= depth {
                         return ended(Refusal::TooDeep, offset);
                     }
                     self.frames[top].position = self.frames[top].position + 1;
-                    self.frames[held] = Frame {
+                    self.frames[depth] = Frame {
                         object: number,
                         position: 0,
                         length: length as u32,
                     };
-                    self.held = held + 1;
+                    self.depth = depth + 1;
                     self.place = offset;
                     return Stepped {
                         reader: self,
@@ -144,13 +140,23 @@ impl Reader {
         }
     }
 
-    // A refusal that leaves the state as it is; its place is 0.
-    fn kept(self, refusal: Refusal) -> Stepped
-        ensures { λ s. ⌜ stepSaid s ≡ step self (refused (numberOf refusal) (valuesOf refusal) 0) ⌝ }
+    // A refusal of what is looked up: 17 leaves the state as it is, any other ends the reader.
+    fn refused(self, refusal: Refusal, place: u64) -> Stepped
+        ensures { λ s. ⌜ stepSaid s ≡ refusedIn self (numberOf refusal) (valuesOf refusal) place ⌝ }
+    {
+        if number_of(refusal) == 17 {
+            return self.kept(refusal, place);
+        }
+        ended(refusal, place)
+    }
+
+    // A refusal that leaves the state as it is.
+    fn kept(self, refusal: Refusal, place: u64) -> Stepped
+        ensures { λ s. ⌜ stepSaid s ≡ step self (refused (numberOf refusal) (valuesOf refusal) place) ⌝ }
     {
         Stepped {
             reader: self,
-            answer: Answer::Refused(refusal, 0),
+            answer: Answer::Refused(refusal, place),
         }
     }
 
@@ -159,10 +165,7 @@ impl Reader {
         ensures { λ s. ⌜ stepSaid s ≡ beginSaid (now (file .entry)) self (trailerIn (now (file .entry))) ⌝ }
     {
         match trailer_of(file) {
-            TrailerRead::Keeps(refusal, place) => Stepped {
-                reader: self,
-                answer: Answer::Refused(refusal, place),
-            },
+            TrailerRead::Keeps(refusal, place) => self.kept(refusal, place),
             TrailerRead::Ends(refusal, place) => ended(refusal, place),
             TrailerRead::Lays(layout, root) => at_root(file, layout, root),
         }
@@ -174,11 +177,8 @@ fn at_root(file: &[u8], layout: Layout, root: u64) -> Stepped
     requires { ⌜ length (now file) ≤ maxLength ⌝ }
     ensures { λ s. ⌜ stepSaid s ≡ arrive (laidOut (now (file .entry)) layout) root (lookOf (now (file .entry)) layout root) ⌝ }
 {
-    match look_up(file, layout, root) {
-        Look::Barred(refusal) => ended(refusal, layout.table as u64),
-        // The table lies within a file that was laid out, so this never comes.
-        Look::Missing => laid_out(file, layout).kept(Refusal::WrongFile),
-        Look::Faulty(refusal, offset) => ended(refusal, offset),
+    match look_up(file, layout, root, layout.table as u64) {
+        Look::Refused(refusal, place) => laid_out(file, layout).refused(refusal, place),
         Look::Scalar(event, _, offset) => Stepped {
             reader: Reader::ENDED,
             answer: handed(event, offset),
@@ -190,7 +190,7 @@ fn at_root(file: &[u8], layout: Layout, root: u64) -> Stepped
                 position: 0,
                 length: length as u32,
             };
-            reader.held = 1;
+            reader.depth = 1;
             reader.place = offset;
             Stepped {
                 reader,
@@ -215,7 +215,7 @@ fn laid_out(file: &[u8], layout: Layout) -> Reader
         count: layout.count,
         table: layout.table,
         place: layout.table as u64,
-        held: 0,
+        depth: 0,
         frames: [Frame::NONE; Reader::MAX_OPEN],
     }
 }

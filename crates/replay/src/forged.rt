@@ -1,23 +1,27 @@
 // States and records that no reader gave: one call on each, and all that it answers and leaves. compare/README.md has the format.
 use event::Event;
+use event::Integer;
 use event::Length;
+use event::real::real_of;
 use hexlines::hex::decode;
 use hexlines::hex::least;
 use hexlines::line::next;
 use hexlines::line::number;
+use layout::frame::Frame;
+use layout::refusal::number_of;
 use libc::STDOUT_FILENO;
+use number::signed::signed_of;
 use reader::answer::Answer;
 use reader::answer::Record;
-use reader::answer::number_of;
 use reader::request::TextLength;
 use reader::request::text_length;
 use reader::request::text_part;
-use reader::state::Frame;
 use reader::state::Reader;
 use say::say_answer;
 use say::say_refusal;
 ghost use Prim.Native.Nat.{_≤_};
 ghost use lib.ListN.{length};
+ghost use Rattle.event.specs.Format.{maxOpen};
 
 // `S FILE ..` is a state, any other capital a record.
 pub fn forged(line: &[u8], file: &mut [u8], scratch: &mut [u8], out: &mut [u8]) {
@@ -76,7 +80,7 @@ fn state_of(s: &[u8], fresh: usize) -> Reader {
     let count = after(s, refs);
     let table = after(s, count);
     let place = after(s, table);
-    let held = after(s, place);
+    let depth = after(s, place);
     let mut reader = Reader {
         fresh: number(s, fresh) == 1,
         length: word(s, length),
@@ -85,10 +89,10 @@ fn state_of(s: &[u8], fresh: usize) -> Reader {
         count: word(s, count),
         table: word(s, table),
         place: number(s, place),
-        held: number(s, held) as usize,
+        depth: number(s, depth) as usize,
         frames: [Frame::NONE; Reader::MAX_OPEN],
     };
-    let mut at = after(s, held);
+    let mut at = after(s, depth);
     let mut i: usize = 0;
     while i < Reader::MAX_OPEN {
         let position = after(s, at);
@@ -140,7 +144,7 @@ fn say_state(reader: Reader) {
     say_number(reader.count as u64, b" ");
     say_number(reader.table as u64, b" ");
     say_number(reader.place, b" ");
-    say_number(reader.held as u64, b" ");
+    say_number(reader.depth as u64, b" ");
     say_frames(reader);
     io::write_all(STDOUT_FILENO, b"\n");
 }
@@ -159,7 +163,7 @@ fn say_frames(reader: Reader) {
 }
 
 fn shown_frames(reader: Reader) -> usize
-    ensures { λ r. ⌜ r ≤ 64 ⌝ }
+    ensures { λ r. ⌜ r ≤ maxOpen ⌝ }
 {
     let mut n: usize = Reader::MAX_OPEN;
     while 0 < n {
@@ -178,12 +182,13 @@ fn shown_frames(reader: Reader) -> usize
     0
 }
 
-// A record's fields are the scratch's length, the kind and the offset. The answer, the scratch afterwards, and the part.
+// A record's fields are the scratch's length, the kind, its value and the offset. The answer, the scratch afterwards, and the part.
 fn say_request(file: &[u8], scratch: &mut [u8], out: &mut [u8], s: &[u8], length: usize) {
     let kind = after(s, length);
-    let offset = after(s, kind);
+    let value = after(s, kind);
+    let offset = after(s, value);
     let handed = Record {
-        event: event_of(number(s, kind)),
+        event: event_of(number(s, kind), number(s, value)),
         offset: number(s, offset),
     };
     blank(scratch);
@@ -226,17 +231,23 @@ fn blank(scratch: &mut [u8]) {
     }
 }
 
-fn event_of(kind: u64) -> Event {
+// The tape's kinds, but that 4 is an integer by its 64 bits; any other number is a NaN by its bits.
+fn event_of(kind: u64, value: u64) -> Event {
     match kind {
-        0 => Event::Data,
-        1 => Event::String,
-        2 => Event::EndCollection,
-        3 => Event::Boolean(true),
-        4 => Event::StartArray(Length::Given(3)),
-        5 => Event::StartDictionary(Length::Given(3)),
-        6 => Event::Integer(event::Integer::Unsigned(1)),
-        7 => Event::Date(0),
-        8 => Event::Nan(0xffff_ffff_ffff_ffff),
-        _ => Event::Uid(7),
+        1 => Event::Boolean(false),
+        2 => Event::Boolean(true),
+        3 => Event::Integer(Integer::Unsigned(value)),
+        4 => Event::Integer(Integer::Signed(signed_of(value))),
+        5 => real_of(value),
+        6 => Event::Date(value),
+        7 => Event::Uid(value),
+        8 => Event::Data,
+        9 => Event::String,
+        10 => Event::StartArray(Length::NotGiven),
+        11 => Event::StartArray(Length::Given(value)),
+        12 => Event::StartDictionary(Length::NotGiven),
+        13 => Event::StartDictionary(Length::Given(value)),
+        14 => Event::EndCollection,
+        _ => Event::Nan(value),
     }
 }

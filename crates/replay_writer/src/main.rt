@@ -1,4 +1,4 @@
-// Answers tapes in hex, one a line, as compare/README.md says of `oracle write`, and what document 01 fixes where the Rust is not asked. A
+// Answers tapes in hex, one a line, as compare/README.md says of `oracle write`, and what docs/FORMAT.md fixes where the Rust is not asked. A
 // line that says what is lent is answered with all that the writer leaves.
 mod answer;
 

@@ -1,6 +1,8 @@
 // The reader's answers as lines, written to a descriptor, and the listing of a whole file.
 pub mod list;
 
+use event::Event;
+use layout::refusal::number_of;
 use line::put::Fixed;
 use line::put::Put;
 use line::put::put_event;
@@ -8,7 +10,6 @@ use line::put::put_fixed;
 use line::put::put_refusal;
 use reader::answer::Answer;
 use reader::answer::Record;
-use reader::answer::number_of;
 use reader::request::text_length;
 use reader::request::text_part;
 
@@ -20,12 +21,35 @@ pub fn say_answer(to: i32, file: &[u8], scratch: &mut [u8], out: &mut [u8], answ
     }
 }
 
-// An event's bytes are asked for first. The part is empty where there are none, and where the request is refused.
+// The bytes of data and text are asked for first. The part is empty where the request is refused.
 pub fn say_event(to: i32, file: &[u8], scratch: &mut [u8], out: &mut [u8], handed: Record) {
-    text_length(file, scratch, handed);
+    if has_bytes(handed) {
+        text_length(file, scratch, handed);
+        say_filled(to, file, scratch, out, handed);
+    } else {
+        say_filled(to, file, scratch, out, handed);
+    }
+}
+
+// An event whose bytes have been asked for, if it has any.
+pub(crate) fn say_filled(to: i32, file: &[u8], scratch: &mut [u8], out: &mut [u8], handed: Record) {
     let event = handed.event;
-    let put = put_event(out, 0, event, text_part(file, scratch, handed));
-    say_put(to, out, put);
+    if has_bytes(handed) {
+        let put = put_event(out, 0, event, text_part(file, scratch, handed));
+        say_put(to, out, put);
+    } else {
+        let put = put_event(out, 0, event, b"");
+        say_put(to, out, put);
+    }
+}
+
+pub(crate) fn has_bytes(handed: Record) -> bool {
+    let event = handed.event;
+    match event {
+        Event::Data => true,
+        Event::String => true,
+        _ => false,
+    }
 }
 
 pub fn say_fixed(to: i32, out: &mut [u8], fixed: Fixed) {

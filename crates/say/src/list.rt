@@ -1,12 +1,13 @@
 // The listing: one line for each event, until the end, a refusal, or the last event that is listed.
+use crate::has_bytes;
 use crate::say_answer;
-use crate::say_event;
+use crate::say_filled;
 use crate::say_fixed;
 use crate::say_refusal;
+use layout::refusal::number_of;
 use line::put::Fixed;
 use reader::answer::Answer;
 use reader::answer::Record;
-use reader::answer::number_of;
 use reader::request::TextLength;
 use reader::request::text_length;
 use reader::state::Reader;
@@ -52,14 +53,17 @@ fn list(to: i32, file: &[u8], scratch: &mut [u8], line: &mut [u8]) {
         if lacks_room(to, file, scratch, line, handed) {
             return;
         }
-        say_event(to, file, scratch, line, handed);
+        say_filled(to, file, scratch, line, handed);
         left -= 1;
     }
     say_fixed(to, line, Fixed::Stopped);
 }
 
-// A text that the scratch has no room for ends the listing with refusal 16. Events that are no data or text ask for nothing.
+// The bytes of data and text are asked for. A text that the scratch has no room for ends the listing with refusal 16.
 fn lacks_room(to: i32, file: &[u8], scratch: &mut [u8], line: &mut [u8], handed: Record) -> bool {
+    if has_bytes(handed) == false {
+        return false;
+    }
     let TextLength::Refused(refusal, place) = text_length(file, scratch, handed) else {
         return false;
     };

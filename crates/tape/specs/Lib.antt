@@ -13,6 +13,8 @@ pub mod ItemLaws
 pub mod Kinds
 pub mod KindsLaws
 pub mod PartLaws
+pub mod Said
+pub mod SaidLaws
 pub mod SameLaws
 pub mod Seven
 pub mod SevenLaws

@@ -41,11 +41,11 @@ pub fn append(tape: &mut [u8], held: usize, event: Event, bytes: &[u8]) -> Appen
     if is_bad_text(event, bytes) {
         return Appended::BadText(held as u64);
     }
-    put(tape, held, event, bytes)
+    append_unchecked(tape, held, event, bytes)
 }
 
-// The same with text not checked, for a caller who knows that its text is UTF-8.
-pub fn put(tape: &mut [u8], held: usize, event: Event, bytes: &[u8]) -> Appended
+// The same with text not looked at, for a caller who knows that it is UTF-8: text that isn't would stand on the tape, where no step reads it.
+pub fn append_unchecked(tape: &mut [u8], held: usize, event: Event, bytes: &[u8]) -> Appended
     ensures { λ r. ⌜ said r ≡ putOf (now (tape .entry)) held (bytesFor (meaningOf event (now (bytes .entry)))) ⌝ }
     ensures { λ _. ⌜ now (tape .exit) ≡ putTo (now (tape .entry)) held (bytesFor (meaningOf event (now (bytes .entry)))) ⌝ }
 {

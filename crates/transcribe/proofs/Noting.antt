@@ -17,25 +17,25 @@ use Rattle.event.specs.Meaning.{Meaning, meaningOf}
 use Rattle.event.specs.declared.Event.{Event}
 use Rattle.object.specs.Content.{part}
 use Rattle.object.specs.declared.read.Part.{Part}
-use Rattle.reader.specs.FoundLaws.{plain-denied}
+use Rattle.layout.specs.Bytes.{Asked, inFile, inUtf16, noBytes, denied, eventAsked, hasBytes}
+use Rattle.layout.specs.Said.{askedSaid, numberOf, valuesOf}
+use Rattle.layout.specs.declared.refusal.Refusal.{Refusal}
+use Rattle.layout.specs.declared.lookup.Asked.{Asked as AskedRead}
+use Rattle.layout.specs.declared.lookup.Asked.the-variants.{InFile, InUtf16, NoBytes, Denied}
+use Rattle.reader.specs.Machine.{recordOf}
 use Rattle.reader.specs.Meanings.{meaningAt, bytesAsked}
-use Rattle.reader.specs.Request.{Asked, inFile, wide, denied, eventAsked, askedOf, hasBytes, long, refusing, lengthSaid, scratchAfter}
-use Rattle.reader.specs.Said.{askedSaid, numberOf, valuesOf}
+use Rattle.reader.specs.Request.{askedOf, long, refusing, lengthSaid, scratchAfter}
 use Rattle.reader.specs.State.{maxLength}
-use Rattle.reader.specs.declared.answer.Record.{Record}
-use Rattle.reader.specs.declared.answer.Refusal.{Refusal}
-use Rattle.reader.specs.declared.request.Asked.{Asked as AskedRead}
-use Rattle.reader.specs.declared.request.Asked.the-variants.{InFile, Wide, Denied}
 use Rattle.reader.proofs.Inside.{AskedIn, asked-in}
-use Rattle.reader.proofs.Wide.{is-written, no-room, is-text, filled}
+use Rattle.reader.proofs.Utf16.{is-written, no-room, is-text, filled}
 use Rattle.tape.specs.AppendLaws.{put-event}
 use Rattle.tape.specs.Append.{putOf, putTo, appendOf, appendTo}
 use Rattle.tape.specs.Code.{bytesFor, allowed}
 use Rattle.transcribe.proofs.Calls.{plain-noted as noted-plain}
-use Rattle.transcribe.specs.Asking.{Given, given-allowed}
+use Rattle.transcribe.specs.HandedLaws.{Given, given-allowed}
 use Rattle.transcribe.specs.Note.{Noted, noting, fromTape, putNote, noteOf}
 use Rattle.transcribe.specs.Note as note
-use Rattle.transcribe.specs.TranscriptLaws.{wideText, note-file, note-long, note-wide}
+use Rattle.transcribe.specs.TranscriptLaws.{utf16Text, note-file, note-long, note-changed}
 use Rattle.transcribe.specs.Walk.{Notable}
 
 -- a note, from what the tape answers and what becomes of it
@@ -50,21 +50,15 @@ lent file p = take (p .start + p .length - p .start) (drop (p .start) file)
 lent-is : (file : List ℕ) (p : Part) → lent file p ≡ part file (p .start) (p .length)
 lent-is file p = rw (let e : p .start + p .length - p .start ≡ p .length = omega arith in e)
 
--- bytes that stand somewhere
-abbrev Stand : Asked → Type 0
-Stand (inFile start n) = Unit {0}
-Stand (wide start n) = Unit {0}
-Stand (denied number values) = ⊥
-
 module _ (file scratch : List ℕ) (start n offset : ℕ) where
   -- text that fits
-  fits-is : (k : ℕ) → lengthSaid file scratch offset (wide start n) ≡ long k → (leb (length (wideText file start n)) (length scratch) ≡ true) × (length (wideText file start n) ≡ k)
+  fits-is : (k : ℕ) → lengthSaid file scratch offset (inUtf16 start n) ≡ long k → (leb (length (utf16Text file start n)) (length scratch) ≡ true) × (length (utf16Text file start n) ≡ k)
   unfolding lengthSaid
-  fits-is k h = go (leb (length (wideText file start n)) (length scratch)) refl
+  fits-is k h = go (leb (length (utf16Text file start n)) (length scratch)) refl
     where
-      go : (b : Bool) → leb (length (wideText file start n)) (length scratch) ≡ b → (leb (length (wideText file start n)) (length scratch) ≡ true) × (length (wideText file start n) ≡ k)
+      go : (b : Bool) → leb (length (utf16Text file start n)) (length scratch) ≡ b → (leb (length (utf16Text file start n)) (length scratch) ≡ true) × (length (utf16Text file start n) ≡ k)
       go true f =
-          let z : long (length (wideText file start n)) ≡ long k = rw f at h in
+          let z : long (length (utf16Text file start n)) ≡ long k = rw f at h in
           (f, cc)
       go false f =
           let z : refusing 16 [] offset ≡ long k = rw f at h in
@@ -72,21 +66,18 @@ module _ (file scratch : List ℕ) (start n offset : ℕ) where
           absurd (omega arith)
 
   -- text that doesn't
-  lacks-is : lengthSaid file scratch offset (wide start n) ≡ refusing 16 [] offset → leb (length (wideText file start n)) (length scratch) ≡ false
+  lacks-is : lengthSaid file scratch offset (inUtf16 start n) ≡ refusing 16 [] offset → leb (length (utf16Text file start n)) (length scratch) ≡ false
   unfolding lengthSaid
-  lacks-is h = go (leb (length (wideText file start n)) (length scratch)) refl
+  lacks-is h = go (leb (length (utf16Text file start n)) (length scratch)) refl
     where
-      go : (b : Bool) → leb (length (wideText file start n)) (length scratch) ≡ b → leb (length (wideText file start n)) (length scratch) ≡ false
+      go : (b : Bool) → leb (length (utf16Text file start n)) (length scratch) ≡ b → leb (length (utf16Text file start n)) (length scratch) ≡ false
       go true f =
-          let z : long (length (wideText file start n)) ≡ refusing 16 [] offset = rw f at h in
+          let z : long (length (utf16Text file start n)) ≡ refusing 16 [] offset = rw f at h in
           let q : _≡_ {A = ℕ} 0 1 = cc in
           absurd (omega arith)
       go false f = f
 
 module _ {file : List ℕ} {e : Event} {bytes : AskedRead} {offset : ℕ} (w : Notable file e bytes offset) where
-  abbrev handed : Record
-  handed = record { event = e; offset = offset }
-
   short : ltb maxLength (length file) ≡ false
   short = le-ltb _ _ (w .short)
 
@@ -98,23 +89,20 @@ module _ {file : List ℕ} {e : Event} {bytes : AskedRead} {offset : ℕ} (w : N
 
   inside : {a : Asked} → askedSaid bytes ≡ a → AskedIn file a
   unfolding askedOf
-  inside h = rw (short, stands h) at (asked-in file handed)
+  inside h = rw (short, stands h) at (asked-in file (recordOf e offset))
 
-  -- an event whose bytes stand somewhere has some
-  has : {a : Asked} → askedSaid bytes ≡ a → Stand a → hasBytes e ≡ true
-  has h t = go (hasBytes e) refl
-    where
-      go : (b : Bool) → hasBytes e ≡ b → hasBytes e ≡ true
-      go true k = k
-      go false k = absurd (rw (sym (stands h) ∙ plain-denied file e offset k) at t)
+  -- what was handed out is given
+  pub never-denied : {r : Refusal} → bytes ≡ Denied r → ⊥
+  unfolding askedSaid
+  never-denied {r} h = given {a = denied (numberOf r) (valuesOf r)} (rw h)
 
   -- without bytes
-  module _ {r : Refusal} (h : bytes ≡ Denied r) where
+  module _ (h : bytes ≡ NoBytes) where
     pub is-plain : hasBytes e ≡ false
     unfolding askedSaid
-    is-plain = given {a = denied (numberOf r) (valuesOf r)} (rw h)
+    is-plain = given {a = noBytes} (rw h)
 
-    pub plain-noted : (scratch tape : List ℕ) (held : ℕ) (y : Noted) (t : List ℕ) → y ≡ fromTape (appendOf tape held (meaningOf e [])) → t ≡ appendTo tape held (meaningOf e []) → noting y t scratch ≡ noteOf file scratch tape held handed
+    pub plain-noted : (scratch tape : List ℕ) (held : ℕ) (y : Noted) (t : List ℕ) → y ≡ fromTape (appendOf tape held (meaningOf e [])) → t ≡ appendTo tape held (meaningOf e []) → noting y t scratch ≡ noteOf file scratch tape held (recordOf e offset)
     plain-noted scratch tape held y t = noted-plain file scratch tape t held e offset y is-plain
 
   -- bytes of the file
@@ -130,63 +118,64 @@ module _ {file : List ℕ} {e : Event} {bytes : AskedRead} {offset : ℕ} (w : N
     unfolding meaningAt bytesAsked
     file-means = rw (lent-is file p, stands in-file)
 
-    pub file-noted : (scratch tape : List ℕ) (held : ℕ) (y : Noted) (t : List ℕ) → y ≡ fromTape (putOf tape held (bytesFor (meaningOf e (lent file p)))) → t ≡ putTo tape held (bytesFor (meaningOf e (lent file p))) → noting y t scratch ≡ noteOf file scratch tape held handed
+    pub file-noted : (scratch tape : List ℕ) (held : ℕ) (y : Noted) (t : List ℕ) → y ≡ fromTape (putOf tape held (bytesFor (meaningOf e (lent file p)))) → t ≡ putTo tape held (bytesFor (meaningOf e (lent file p))) → noting y t scratch ≡ noteOf file scratch tape held (recordOf e offset)
     file-noted scratch tape held y t u v =
-        put-is scratch tape t held _ y (rw (lent-is file p) (given in-file)) u v ∙
-        rw file-means (sym (note-file file scratch tape held e offset short (has in-file tt) (p .start) (p .length) (stands in-file)))
+        put-is scratch tape t held _ y (rw (lent-is file p) (given in-file .1)) u v ∙
+        rw file-means (sym (note-file file scratch tape held e offset short (given in-file .0) (p .start) (p .length) (stands in-file)))
 
   -- bytes of the file that are UTF-16
-  module _ {p : Part} (h : bytes ≡ Wide p) where
-    in-wide : askedSaid bytes ≡ wide (p .start) (p .length)
+  module _ {p : Part} (h : bytes ≡ InUtf16 p) where
+    in-utf16 : askedSaid bytes ≡ inUtf16 (p .start) (p .length)
     unfolding askedSaid
-    in-wide = rw h
+    in-utf16 = rw h
 
-    pub wide-end : p .start + p .length ≤ length file
-    wide-end = inside in-wide .0
+    pub utf16-end : p .start + p .length ≤ length file
+    utf16-end = inside in-utf16 .0
 
-    is-wide : isUtf16 (part file (p .start) (p .length)) ≡ true
-    is-wide = given in-wide .1
+    is-utf16 : isUtf16 (part file (p .start) (p .length)) ≡ true
+    is-utf16 = given in-utf16 .1
 
-    wide-has : hasBytes e ≡ true
-    wide-has = has in-wide tt
+    utf16-has : hasBytes e ≡ true
+    unfolding hasBytes
+    utf16-has = rw (given in-utf16 .0) refl
 
-    abbrev wide-text : List ℕ
-    wide-text = wideText file (p .start) (p .length)
+    abbrev utf16-text : List ℕ
+    utf16-text = utf16Text file (p .start) (p .length)
 
     module _ (scratch : List ℕ) (x : Changed) (changed : x ≡ changedOf (isUtf16 (lent file p)) (toUtf8 (lent file p)) scratch) where
       -- what was read as UTF-16 is text
       pub never-bad : x ≡ NotText → ⊥
-      never-bad z = is-text file scratch (p .start) (p .length) is-wide offset x changed z
+      never-bad z = is-text file scratch (p .start) (p .length) is-utf16 offset x changed z
 
       module _ (s : List ℕ) (after : s ≡ changedTo (isUtf16 (lent file p)) (toUtf8 (lent file p)) scratch) where
-        scratch-is : s ≡ scratchAfter file scratch (wide (p .start) (p .length))
-        scratch-is = after ∙ filled file scratch (p .start) (p .length) is-wide
+        scratch-is : s ≡ scratchAfter file scratch (inUtf16 (p .start) (p .length))
+        scratch-is = after ∙ filled file scratch (p .start) (p .length) is-utf16
 
         -- it is too long for the scratch
-        pub long-noted : x ≡ NoRoom → (tape : List ℕ) (held : ℕ) → noting (note.refused 16 [] offset) tape s ≡ noteOf file scratch tape held handed
+        pub long-noted : x ≡ NoRoom → (tape : List ℕ) (held : ℕ) → noting (note.refused 16 [] offset) tape s ≡ noteOf file scratch tape held (recordOf e offset)
         unfolding scratchAfter
         long-noted z tape held =
-            let f = lacks-is file scratch (p .start) (p .length) offset (no-room file scratch (p .start) (p .length) is-wide offset x changed z) in
-            rw (scratch-is, f) (sym (note-long file scratch tape held e offset short wide-has (p .start) (p .length) (stands in-wide) f))
+            let f = lacks-is file scratch (p .start) (p .length) offset (no-room file scratch (p .start) (p .length) is-utf16 offset x changed z) in
+            rw (scratch-is, f) (sym (note-long file scratch tape held e offset short utf16-has (p .start) (p .length) (stands in-utf16) f))
 
         -- or stands at its start
         module _ {k : ℕ} (z : x ≡ Written k) where
-          fitting : (leb (length wide-text) (length scratch) ≡ true) × (length wide-text ≡ k)
-          fitting = fits-is file scratch (p .start) (p .length) offset k (is-written file scratch (p .start) (p .length) is-wide offset x changed k z)
+          fitting : (leb (length utf16-text) (length scratch) ≡ true) × (length utf16-text ≡ k)
+          fitting = fits-is file scratch (p .start) (p .length) offset k (is-written file scratch (p .start) (p .length) is-utf16 offset x changed k z)
 
-          filled-is : s ≡ wide-text ++ drop (length wide-text) scratch
+          filled-is : s ≡ utf16-text ++ drop (length utf16-text) scratch
           unfolding scratchAfter
           filled-is = scratch-is ∙ rw (fitting .0)
 
           pub text-fits : k ≤ length s
           text-fits = rw (filled-is, length-append, fitting .1) (omega arith)
 
-          wide-means : meaningOf e (take k s) ≡ meaningAt file e offset
+          utf16-means : meaningOf e (take k s) ≡ meaningAt file e offset
           unfolding meaningAt bytesAsked
-          wide-means = rw (filled-is, ← fitting .1, take-append-seam, stands in-wide)
+          utf16-means = rw (filled-is, ← fitting .1, take-append-seam, stands in-utf16)
 
-          pub wide-noted : Bytes file → (tape : List ℕ) (held : ℕ) (y : Noted) (t : List ℕ) → y ≡ fromTape (putOf tape held (bytesFor (meaningOf e (take k s)))) → t ≡ putTo tape held (bytesFor (meaningOf e (take k s))) → noting y t s ≡ noteOf file scratch tape held handed
+          pub utf16-noted : Bytes file → (tape : List ℕ) (held : ℕ) (y : Noted) (t : List ℕ) → y ≡ fromTape (putOf tape held (bytesFor (meaningOf e (take k s)))) → t ≡ putTo tape held (bytesFor (meaningOf e (take k s))) → noting y t s ≡ noteOf file scratch tape held (recordOf e offset)
           unfolding meaningAt
-          wide-noted b tape held y t u v =
-              put-is s tape t held _ y (rw wide-means (given-allowed file b e (eventAsked file e offset) (w .given))) u v ∙
-              rw (wide-means, filled-is) (sym (note-wide file scratch tape held e offset short wide-has (p .start) (p .length) (stands in-wide) (fitting .0)))
+          utf16-noted b tape held y t u v =
+              put-is s tape t held _ y (rw utf16-means (given-allowed file b e (eventAsked file e offset) (w .given))) u v ∙
+              rw (utf16-means, filled-is) (sym (note-changed file scratch tape held e offset short utf16-has (p .start) (p .length) (stands in-utf16) (fitting .0)))

@@ -14,32 +14,34 @@ use Rattle.event.specs.declared.Event.{Event}
 use Rattle.event.specs.declared.Event.the-variants.{EndCollection}
 use Rattle.object.specs.Container.{containerAt}
 use Rattle.object.specs.declared.container.Container.{Container}
-use Rattle.reader.specs.Layout.{lookOf, standsAt, sourceOf}
-use Rattle.reader.specs.Machine.{Step, event, Shape, Looked, barred, missing, faulty, scalar, container, step, startOf, enter, arrive, follow}
+use Rattle.layout.specs.Layout.{dueOf, lookOf, standsAt, sourceOf}
+use Rattle.layout.specs.LookLaws.{look-right, looked-stands}
+use Rattle.layout.specs.Looked.{Shape, Looked, withPlace, faulty, scalar, container, startOf}
+use Rattle.layout.specs.Bytes.{hasBytes, lookedBytes}
+use Rattle.layout.specs.Frame.{newFrame, noFrame, nextIn}
+use Rattle.layout.specs.declared.layout.Due.{Due}
+use Rattle.layout.specs.declared.layout.Due.the-variants.{Wrong, Close, Member}
+use Rattle.layout.specs.declared.layout.Layout.{Layout}
+use Rattle.layout.specs.declared.layout.Standing.{Standing}
+use Rattle.layout.specs.declared.frame.Frame.{Frame}
+use Rattle.layout.proofs.Counts.{counted, numbered, measured}
+use Rattle.layout.specs.Said.{askedSaid}
+use Rattle.layout.specs.declared.lookup.Asked.{Asked as AskedRead}
+use Rattle.reader.specs.Machine.{Step, recordOf, eventAt, step, enter, arrive, follow}
 use Rattle.reader.specs.Machine as reader
 use Rattle.reader.specs.Next.{laidOut}
-use Rattle.reader.specs.NextLaws.{next-due}
-use Rattle.reader.specs.Request.{hasBytes, lookedBytes}
-use Rattle.reader.specs.State.{maxOpen, maxLength, noFrame, endedReader, innermost, openOf, memberOf, nextIn, advanced, passed, entered, closed}
-use Rattle.reader.specs.declared.layout.Due.{Due}
-use Rattle.reader.specs.declared.layout.Due.the-variants.{Wrong, Close, Member}
-use Rattle.reader.specs.declared.layout.Layout.{Layout}
-use Rattle.reader.specs.declared.layout.Standing.{Standing}
-use Rattle.reader.specs.declared.state.Frame.{Frame}
+use Rattle.reader.specs.NextLaws.{next-due, arrive-refused, refusedIn-answer}
+use Rattle.reader.specs.State.{maxOpen, maxLength, endedReader, innermost, openOf, memberOf, advanced, passed, entered, closed}
 use Rattle.reader.specs.declared.state.Reader.{Reader}
-use Rattle.reader.proofs.Counts.{counted, numbered, measured}
-use Rattle.reader.proofs.Stands.{due-stands, looked-stands}
-use Rattle.reader.specs.Said.{askedSaid}
-use Rattle.reader.specs.declared.request.Asked.{Asked as AskedRead}
 use Rattle.tape.specs.Append.{appendOf, appendTo}
 use Rattle.transcribe.specs.Note.{Noted, kept, noting, fromTape, noteOf}
 use Rattle.transcribe.specs.Run.{End, refused, Run, run, runOf, onward, endOf, finishedOf}
 use Rattle.transcribe.specs.RunLaws.{run-onward}
 use Rattle.transcribe.specs.Said.{failSaid}
-use Rattle.transcribe.specs.Asking.{scalar-given}
+use Rattle.transcribe.specs.HandedLaws.{scalar-given, start-plain}
 use Rattle.transcribe.specs.Walk.{Notable, dueNow, within}
 use Rattle.transcribe.specs.declared.note.Failure.{Failure}
-use Rattle.transcribe.proofs.Calls.{plain-noted, start-plain, call-refused, call-kept, call-failed, run-ended}
+use Rattle.transcribe.proofs.Calls.{plain-noted, call-refused, call-kept, call-failed, run-ended}
 
 -- where the innermost of these containers stands
 abbrev pub standsIn : List ℕ → Layout → ℕ → List Frame → Standing
@@ -71,10 +73,10 @@ module _ (file : List ℕ) (l : Layout) (root : ℕ) where
   over place (suc depth) frames x = rw (ne-eqb (suc depth) 0 (λ e. omega arith))
 
   run-open : length file ≤ maxLength → (n : ℕ) (scratch tape : List ℕ) (held place depth : ℕ) (frames : List Frame) → (depth ≡ 0 → ⊥) → depth ≤ maxOpen → runOf n file scratch tape held (within file l place depth frames) ≡ leftOf n scratch tape held place depth frames
-  unfolding within innermost callOf dueNow
+  unfolding within innermost callOf dueNow dueOf
   run-open short n scratch tape held place depth frames some fits =
       run-onward n file scratch tape held (within file l place depth frames) ∙
-      ap (onward n file scratch tape held) (next-due file (within file l place depth frames) refl some short refl fits l (allowed (l .offsets)) (allowed (l .refs)) refl refl ∙ rw (ne-eqb _ _ some, due-stands file l (getD frames (depth - 1) noFrame)))
+      ap (onward n file scratch tape held) (next-due file (within file l place depth frames) refl some short refl fits l (allowed (l .offsets)) (allowed (l .refs)) refl refl ∙ rw (ne-eqb _ _ some))
 
 -- a turn: something is left, and the innermost frame is the one at `top`, of a container that stands there. What is left is the whole run
 -- that the walk began with
@@ -116,7 +118,7 @@ module _ (x : Turn) where
 
   -- what noting an event answers
   abbrev pub Notes : Event → ℕ → Noted → List ℕ → List ℕ → Type 0
-  Notes e offset y t s = noting y t s ≡ noteOf (x .file) (x .scratch) (x .tape) (x .held) (record { event = e; offset = offset })
+  Notes e offset y t s = noting y t s ≡ noteOf (x .file) (x .scratch) (x .tape) (x .held) (recordOf e offset)
 
   -- where the run ends, and where it goes on
   abbrev pub Ends : End → ℕ → List ℕ → List ℕ → Type 0
@@ -125,10 +127,10 @@ module _ (x : Turn) where
   abbrev pub Goes : List ℕ → List ℕ → ℕ → ℕ → ℕ → List Frame → Type 0
   Goes scratch tape held place depth frames = leftOf (x .file) (x .layout) (x .root) (x .left - 1) scratch tape held place depth frames ≡ x .whole
 
-  refuses : (r : Reader) (number : ℕ) (values : List ℕ) (place : ℕ) → call ≡ step r (reader.refused number values place) → Ends (refused number values place) (x .held) (x .tape) (x .scratch)
-  refuses r number values place e = sym (call-refused (x .left) (x .file) (x .scratch) (x .tape) (x .held) (x .some) call number values place (rw e)) ∙ x .is
+  refuses : (number : ℕ) (values : List ℕ) (place : ℕ) → call .answer ≡ reader.refused number values place → Ends (refused number values place) (x .held) (x .tape) (x .scratch)
+  refuses number values place e = sym (call-refused (x .left) (x .file) (x .scratch) (x .tape) (x .held) (x .some) call number values place e) ∙ x .is
 
-  module _ (r : Reader) (e : Event) (offset : ℕ) (answers : call ≡ step r (event e offset)) (y : Noted) (t s : List ℕ) (notes : Notes e offset y t s) where
+  module _ (r : Reader) (e : Event) (offset : ℕ) (answers : call ≡ step r (eventAt e offset)) (y : Noted) (t s : List ℕ) (notes : Notes e offset y t s) where
     fails : (f : Failure) → y ≡ failSaid f → Ends (endOf (failSaid f)) (x .held) t s
     fails f k = sym (rw answers (call-failed (x .left) (x .file) (x .scratch) (x .tape) (x .held) (x .some) _ e offset refl y t s notes f k)) ∙ x .is
 
@@ -155,11 +157,11 @@ module _ (x : Turn) where
 
   pub is-wrong : due ≡ Wrong → Ends (refused 17 [] 0) (x .held) (x .tape) (x .scratch)
   unfolding follow
-  is-wrong d = refuses reads 17 [] 0 (rw (call-due, d))
+  is-wrong d = refuses 17 [] 0 (rw (call-due, d))
 
   -- the innermost container ends
   module _ (offset : ℕ) (d : due ≡ Close offset) (y : Noted) (t : List ℕ) (notes : y ≡ fromTape (appendOf (x .tape) (x .held) (meaningOf EndCollection []))) (puts : t ≡ appendTo (x .tape) (x .held) (meaningOf EndCollection [])) where
-    call-close : call ≡ step (closed reads) (event EndCollection offset)
+    call-close : call ≡ step (closed reads) (eventAt EndCollection offset)
     unfolding follow
     call-close = rw (call-due, d)
 
@@ -193,20 +195,14 @@ module _ (x : Turn) where
     unfolding follow sourceOf
     call-member = rw (call-due, d)
 
-    pub is-barred : (number : ℕ) (values : List ℕ) → looked object ≡ barred number values → Ends (refused number values (x .place)) (x .held) (x .tape) (x .scratch)
-    unfolding arrive within
-    is-barred number values f = refuses endedReader number values (x .place) (call-member ∙ rw f)
-
-    pub is-missing : looked object ≡ missing → Ends (refused 17 [] 0) (x .held) (x .tape) (x .scratch)
-    unfolding arrive
-    is-missing f = refuses reads 17 [] 0 (call-member ∙ rw f)
-
-    pub is-faulty : (number : ℕ) (values : List ℕ) (offset : ℕ) → looked object ≡ faulty number values offset → Ends (refused number values offset) (x .held) (x .tape) (x .scratch)
-    unfolding arrive
-    is-faulty number values offset f = refuses endedReader number values offset (call-member ∙ rw f)
+    pub is-refused : (number : ℕ) (values : List ℕ) (place : ℕ) → withPlace (x .place) (looked object) ≡ faulty number values place → Ends (refused number values place) (x .held) (x .tape) (x .scratch)
+    unfolding within
+    is-refused number values place f =
+        let e = call-member ∙ arrive-refused (x .file) (x .layout) reads object number values place (looked object) (look-right (x .file) (x .layout) object) f in
+        refuses number values place (ap (λ (s : Step). s .answer) e ∙ refusedIn-answer reads number values place)
 
     module _ (e : Event) (offset : ℕ) (f : looked object ≡ scalar e offset) (y : Noted) (t s : List ℕ) (notes : Notes e offset y t s) where
-      call-scalar : call ≡ step (passed reads offset) (event e offset)
+      call-scalar : call ≡ step (passed reads offset) (eventAt e offset)
       unfolding arrive
       call-scalar = rw (call-member, f)
 
@@ -235,10 +231,10 @@ module _ (x : Turn) where
 
       pub is-open-now : memberOf (take (x .depth) (x .frames)) object ≡ true → Ends (refused 14 [] offset) (x .held) (x .tape) (x .scratch)
       unfolding enter openOf within
-      is-open-now b = refuses endedReader 14 [] offset (call-enter ∙ rw b)
+      is-open-now b = refuses 14 [] offset (rw (call-enter, b))
 
       -- the innermost container is the new one
-      pub enter-stands : x .depth < maxOpen → (y : Container) → y ≡ containerAt (x .file) offset → Stands (x .file) (x .layout) (record { offset = offset; container = y }) (x .depth + 1) (set (set (x .frames) (x .top) (nextIn (getD (x .frames) (x .top) noFrame))) (x .depth) (record { object = object; position = 0; length = k }))
+      pub enter-stands : x .depth < maxOpen → (y : Container) → y ≡ containerAt (x .file) offset → Stands (x .file) (x .layout) (record { offset = offset; container = y }) (x .depth + 1) (set (set (x .frames) (x .top) (nextIn (getD (x .frames) (x .top) noFrame))) (x .depth) (newFrame object k))
       enter-stands h y e z =
           let g : Frame = nextIn (getD (x .frames) (x .top) noFrame) in
           let last : x .depth + 1 - 1 ≡ x .depth = omega arith in
@@ -247,10 +243,10 @@ module _ (x : Turn) where
       module _ (b : memberOf (take (x .depth) (x .frames)) object ≡ false) where
         pub is-deep : maxOpen ≤ x .depth → Ends (refused 15 [] offset) (x .held) (x .tape) (x .scratch)
         unfolding enter openOf within
-        is-deep h = refuses endedReader 15 [] offset (call-enter ∙ rw (b, le-leb _ _ h))
+        is-deep h = refuses 15 [] offset (rw (call-enter, b, le-leb _ _ h))
 
         module _ (h : x .depth < maxOpen) (e : Event) (starts : e ≡ startOf shape k) (y : Noted) (t : List ℕ) (notes : y ≡ fromTape (appendOf (x .tape) (x .held) (meaningOf e []))) (puts : t ≡ appendTo (x .tape) (x .held) (meaningOf e [])) where
-          call-start : call ≡ step (entered reads object k offset) (event e offset)
+          call-start : call ≡ step (entered reads object k offset) (eventAt e offset)
           unfolding enter openOf within
           call-start = rw (call-enter, b, lt-leb _ _ h, starts)
 
@@ -260,14 +256,18 @@ module _ (x : Turn) where
           pub enter-fails : (f : Failure) → y ≡ failSaid f → Ends (endOf (failSaid f)) (x .held) t (x .scratch)
           enter-fails = fails (entered reads object k offset) e offset call-start y t (x .scratch) noted-start
 
-          pub enter-goes : (m : ℕ) → y ≡ kept m → Goes (x .scratch) t m offset (x .depth + 1) (set (set (x .frames) (x .top) (nextIn (getD (x .frames) (x .top) noFrame))) (x .depth) (record { object = object; position = 0; length = k }))
+          pub enter-goes : (m : ℕ) → y ≡ kept m → Goes (x .scratch) t m offset (x .depth + 1) (set (set (x .frames) (x .top) (nextIn (getD (x .frames) (x .top) noFrame))) (x .depth) (newFrame object k))
           unfolding entered within
           enter-goes =
-              let g : Frame = record { object = object; position = 0; length = k } in
+              let g : Frame = newFrame object k in
               goes (entered reads object k offset) e offset call-start y t (x .scratch) noted-start offset (x .depth + 1) _
               (ap (within (x .file) (x .layout) offset (x .depth + 1)) (rw (x .at) (over (x .file) (x .layout) (x .root) (x .place) (x .depth) (x .frames) g)))
               (λ e. omega arith)
               (omega arith)
+
+  -- there are as many frames after one was moved and another written
+  pub still-long : (f g : Frame) → length (set (set (x .frames) (x .top) f) (x .depth) g) ≡ maxOpen
+  still-long f g = rw (length-set, length-set) (x .long)
 
   -- with its bytes an event that was looked up can be noted
   pub notable : (object : ℕ) (e : Event) (bytes : AskedRead) (offset : ℕ) → looked object ≡ scalar e offset → askedSaid bytes ≡ lookedBytes (x .file) (looked object) → Notable (x .file) e bytes offset
@@ -284,7 +284,7 @@ module _ (x : Turn) where
 
   -- the innermost frame's position can be counted on; with nothing open no frame was counted yet
   pub counts : (object : ℕ) → due ≡ Member object → (x .depth ≡ 0 → x .frames ≡ replicate maxOpen noFrame) → getD (x .frames) (x .top) noFrame .position + 1 < 2 ^ 32
-  unfolding dueNow
+  unfolding dueNow dueOf
   counts object d first = go (x .depth) refl
     where
       go : (n : ℕ) → x .depth ≡ n → getD (x .frames) (x .top) noFrame .position + 1 < 2 ^ 32
@@ -294,4 +294,4 @@ module _ (x : Turn) where
       go (suc n) e =
           let some : x .depth ≡ 0 → ⊥ = λ z. omega arith in
           let f : Frame = getD (x .frames) (x .top) noFrame in
-          counted (x .file) (x .short) object (x .layout) f (due-stands (x .file) (x .layout) f ∙ rw (ne-eqb (x .depth) 0 some, x .stands some, ← x .at) at d)
+          counted (x .file) (x .short) object (x .layout) f (rw (ne-eqb (x .depth) 0 some, x .stands some, ← x .at) at d)

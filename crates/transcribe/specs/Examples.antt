@@ -1,4 +1,4 @@
--- Document 01's P10, the array of 1, "a", 1, onto a tape.
+-- P10 of docs/FORMAT.md, the array of 1, "a", 1, onto a tape.
 use mathlib.Core.List.{List, [], _∷_, _++_, map}
 use mathlib.Core.Path.{_≡_, refl}
 use Prim.Native.Nat.{ℕ}
@@ -12,19 +12,22 @@ use Rattle.object.specs.Container.{containerAt, containerOf}
 use Rattle.object.specs.Content.{contentAt, extentAt, roomFor}
 use Rattle.object.specs.Kind.{kindOf}
 use Rattle.object.specs.Object.{objectAt, byKind, utf8In, arrayIn}
-use Rattle.reader.specs.Layout.{numberAt, entryAt, given, dueAt, inArray, dueIn, dueFrom, dueOf, lookIn, lookFrom, lookOf, sourceOf}
-use Rattle.reader.specs.Machine.{startOf, enter, arrive, follow, stepOf}
+use Rattle.layout.specs.Layout.{numberAt, entryAt, given, dueAt, inArray, dueIn, standsFrom, standsAt, dueOf, lookIn, lookFrom, lookOf, sourceOf}
+use Rattle.layout.specs.Looked.{startOf}
+use Rattle.layout.specs.Bytes.{hasBytes, textAsked, eventAsked}
+use Rattle.layout.specs.Frame.{nextIn}
+use Rattle.layout.specs.Trailer.{begins, eightAt, tableOf, refSizeOf, sizesOf, trailerOf}
+use Rattle.reader.specs.Machine.{enter, arrive, follow, stepOf}
 use Rattle.reader.specs.Next.{laidOut, begin, withRefs, goOn, nextOf}
-use Rattle.reader.specs.Request.{hasBytes, textAsked, eventAsked, askedOf, lengthSaid, scratchAfter, partSaid}
-use Rattle.reader.specs.State.{openOf, innermost, memberOf, advanced, passed, entered, nextIn, closed}
-use Rattle.reader.specs.Trailer.{begins, eightAt, tableOf, refSizeOf, sizesOf, trailerOf}
+use Rattle.reader.specs.Request.{askedOf, lengthSaid, scratchAfter, partSaid}
+use Rattle.reader.specs.State.{openOf, innermost, memberOf, advanced, passed, entered, closed}
 use Rattle.tape.specs.Append.{putOf, putTo, fits, appendOf, appendTo}
 use Rattle.tape.specs.Code.{bytesFor, allowed}
 use Rattle.tape.specs.Seven.{groups, seven}
 use Rattle.transcribe.specs.Note.{fromTape, putNote, textNote, noteOf}
 use Rattle.transcribe.specs.Run.{Run, ended, stopped, refused, run, byNoted, byNote, bySaid, runOf, transcriptOf}
 
--- "P10 array 1, "a", 1: magic, `A3 01 02 01 10 01 51 61 08 0C 0E`, trailer sizes 1, 1, count 3, root 0, table 16"
+-- the file, as docs/FORMAT.md has it byte by byte
 abbrev eight : ℕ → List ℕ
 eight n = replicate 7 0 ++ (n ∷ [])
 
@@ -54,5 +57,5 @@ cases =
     []
 
 pub cases-right : map (λ (c : Case). transcriptOf (c .budget) p10 (7 ∷ []) (c .tape)) cases ≡ map (λ (c : Case). c .run-is) cases
-unfolding be onto widthOf bytesIn within table rowOf wellFormed isUtf8 meaningOf valueOf givenOf containerAt containerOf contentAt extentAt roomFor kindOf objectAt byKind utf8In arrayIn numberAt entryAt given dueAt inArray dueIn dueFrom dueOf lookIn lookFrom lookOf sourceOf startOf enter arrive follow stepOf laidOut begin withRefs goOn nextOf textAsked eventAsked askedOf lengthSaid scratchAfter partSaid openOf innermost memberOf advanced passed entered nextIn closed magic begins eightAt tableOf refSizeOf sizesOf trailerOf putOf putTo fits appendOf appendTo bytesFor allowed groups seven hasBytes fromTape putNote textNote noteOf byNoted byNote bySaid runOf transcriptOf
+unfolding be onto widthOf bytesIn within table rowOf wellFormed isUtf8 meaningOf valueOf givenOf containerAt containerOf contentAt extentAt roomFor kindOf objectAt byKind utf8In arrayIn numberAt entryAt given dueAt inArray dueIn standsFrom standsAt dueOf lookIn lookFrom lookOf sourceOf startOf enter arrive follow stepOf laidOut begin withRefs goOn nextOf textAsked eventAsked askedOf lengthSaid scratchAfter partSaid openOf innermost memberOf advanced passed entered nextIn closed magic begins eightAt tableOf refSizeOf sizesOf trailerOf putOf putTo fits appendOf appendTo bytesFor allowed groups seven hasBytes fromTape putNote textNote noteOf byNoted byNote bySaid runOf transcriptOf
 cases-right = refl

@@ -1,4 +1,4 @@
-pub mod Asking
+pub mod HandedLaws
 pub mod Examples
 pub mod Note
 pub mod Run

@@ -3,7 +3,8 @@ use mathlib.Core.Bool.{cond}
 use mathlib.Core.List.{List, []}
 use Prim.Native.Nat.{ℕ}
 use Rattle.event.specs.Meaning.{Meaning, meaningOf}
-use Rattle.reader.specs.Request.{TextSaid, long, refusing, hasBytes, askedOf, lengthSaid, scratchAfter, partSaid}
+use Rattle.layout.specs.Bytes.{hasBytes}
+use Rattle.reader.specs.Request.{TextSaid, long, refusing, askedOf, lengthSaid, scratchAfter, partSaid}
 use Rattle.reader.specs.declared.answer.Record.{Record}
 use Rattle.tape.specs.Append.{appendOf, appendTo}
 use Rattle.tape.specs.Append as tape

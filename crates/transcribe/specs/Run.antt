@@ -1,4 +1,4 @@
--- A file read from a fresh reader to its end, every event appended to a tape.
+-- A file read from a fresh reader to its end, every event appended to a tape. docs/FORMAT.md, rules T7 and T8.
 use mathlib.Core.List.{List}
 use Prim.Native.Nat.{ℕ, zero, suc}
 use Rattle.reader.specs.Machine.{Said, Step, event}
@@ -36,7 +36,7 @@ byNote on held r n = byNoted on held r (n .scratch) (n .tape) (n .answer)
 
 -- after a call of the reader
 unfoldable pub bySaid : (List ℕ → List ℕ → ℕ → Reader → Run) → List ℕ → List ℕ → List ℕ → ℕ → Reader → Said → Run
-bySaid on file scratch tape held r (event e offset) = byNote on held r (noteOf file scratch tape held (record { event = e; offset = offset }))
+bySaid on file scratch tape held r (event e) = byNote on held r (noteOf file scratch tape held e)
 bySaid on file scratch tape held r reader.ended = run ended held tape scratch
 bySaid on file scratch tape held r (reader.refused number values place) = run (refused number values place) held tape scratch
 

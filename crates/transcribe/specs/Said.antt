@@ -1,6 +1,6 @@
--- What the answers say in document 01's numbers, values and places.
+-- What the answers say in the numbers, values and places of docs/FORMAT.md, N.
 use mathlib.Core.List.{[]}
-use Rattle.reader.specs.Said.{numberOf, valuesOf}
+use Rattle.layout.specs.Said.{numberOf, valuesOf}
 use Rattle.transcribe.specs.Note.{Noted, kept, refused}
 use Rattle.transcribe.specs.Run.{End, ended, stopped}
 use Rattle.transcribe.specs.Run as run

@@ -1,13 +1,12 @@
 -- Two endings that say the same are the same.
 use mathlib.Core.Bool.{cond}
-use mathlib.Core.List.{List, []}
 use mathlib.Core.Path.{_≡_, refl, sym, ap, _∙_}
 use Prim.Native.Nat.{ℕ}
 use lib.Dec.{eqb}
-use Rattle.reader.specs.Said.{numberOf, valuesOf}
-use Rattle.reader.specs.SaidLaws.{refusalFrom, again}
-use Rattle.reader.specs.declared.answer.Refusal.{Refusal}
-use Rattle.reader.specs.declared.answer.Refusal.the-variants.{TooLong, EndOfInput, InvalidMagic, InvalidTrailerObjectOffsetSize, InvalidTrailerObjectReferenceSize, ObjectOffsetTooLarge, ObjectReferenceTooLarge, NullObjectUnimplemented, FillObjectUnimplemented, UnknownObjectType, IntegerOutOfRange, InvalidUtf8String, InvalidUtf16String, RecursiveObject, TooDeep, NoRoomForText, WrongFile}
+use Rattle.layout.specs.Said.{numberOf, valuesOf}
+use Rattle.layout.specs.SaidLaws.{refusalFrom, again}
+use Rattle.layout.specs.declared.refusal.Refusal.{Refusal}
+use Rattle.layout.specs.declared.refusal.Refusal.the-variants.{TooLong, EndOfInput, InvalidMagic, InvalidTrailerObjectOffsetSize, InvalidTrailerObjectReferenceSize, ObjectOffsetTooLarge, ObjectReferenceTooLarge, NullObjectUnimplemented, FillObjectUnimplemented, UnknownObjectType, IntegerOutOfRange, InvalidUtf8String, InvalidUtf16String, RecursiveObject, TooDeep, NoRoomForText, WrongFile}
 use Rattle.transcribe.specs.Run.{End, ended, stopped, refused}
 use Rattle.transcribe.specs.Said.{endSaid}
 use Rattle.transcribe.specs.declared.Ending.{Ending}

@@ -16,20 +16,20 @@ use Rattle.event.specs.Meaning.{Meaning, text, meaningOf}
 use Rattle.event.specs.declared.Event.{Event}
 use Rattle.event.specs.declared.Event.the-variants.{String}
 use Rattle.object.specs.Content.{part}
-use Rattle.reader.specs.Machine.{Said, event}
+use Rattle.layout.specs.Bytes.{hasBytes, Asked, inFile, inUtf16, noBytes, denied, eventAsked}
+use Rattle.reader.specs.Machine.{Said, event, recordOf, eventAt}
 use Rattle.reader.specs.Machine as reader
 use Rattle.reader.specs.Meanings.{Told, means, bytesAsked, meaningAt, told, answers}
 use Rattle.reader.specs.Meanings as meanings
 use Rattle.reader.specs.Next.{nextOf}
-use Rattle.reader.specs.Request.{hasBytes, Asked, inFile, wide, denied, eventAsked, askedOf, lengthSaid, scratchAfter, partSaid}
+use Rattle.reader.specs.Request.{askedOf, lengthSaid, scratchAfter, partSaid}
 use Rattle.reader.specs.State.{maxLength, freshReader}
-use Rattle.reader.specs.declared.answer.Record.{Record}
 use Rattle.reader.specs.declared.state.Reader.{Reader}
 use Rattle.tape.specs.Append.{putOf, putTo, fits, appendOf, appendTo}
 use Rattle.unicode.proofs.Writing.{sets-append}
 use Rattle.tape.specs.Code.{bytesFor, allowed}
 use Rattle.tape.specs.Events.{tapeOf}
-use Rattle.transcribe.specs.Asking.{Given, Own, Handed, next-handed, next-short, plain-means, given-allowed}
+use Rattle.transcribe.specs.HandedLaws.{Given, Own, Handed, next-handed, next-short, plain-means, given-allowed}
 use Rattle.transcribe.specs.Note.{Note, noting, fromTape, putNote, textNote, noteOf}
 use Rattle.transcribe.specs.Note as note
 use Rattle.transcribe.specs.Run.{End, ended, stopped, refused, Run, run, byNoted, byNote, bySaid, runOf, transcriptOf}
@@ -47,17 +47,17 @@ abbrev pub meaningsOf : List Put → List Meaning
 meaningsOf ps = map (λ (p : Put). p .meaning) ps
 
 -- the text of so many bytes of UTF-16 in a file
-abbrev pub wideText : List ℕ → ℕ → ℕ → List ℕ
-wideText file start n = toUtf8 (part file start n)
+abbrev pub utf16Text : List ℕ → ℕ → ℕ → List ℕ
+utf16Text file start n = toUtf8 (part file start n)
 
 -- text whose UTF-8 the scratch is too short for stands as UTF-16 in the file
 pub record NoScratch (file scratch : List ℕ) (m : Meaning) (offset number : ℕ) (values : List ℕ) (place : ℕ) : Type 0 where
   pub says : (number ≡ 16) × (values ≡ []) × (place ≡ offset)
   pub start : ℕ
   pub count : ℕ
-  pub stands : eventAsked file String offset ≡ wide start count
-  pub is : m ≡ text (wideText file start count)
-  pub long : length scratch < length (wideText file start count)
+  pub stands : eventAsked file String offset ≡ inUtf16 start count
+  pub is : m ≡ text (utf16Text file start count)
+  pub long : length scratch < length (utf16Text file start count)
 
 -- an event whose bytes don't fit behind those held
 pub record NoTape (tape : List ℕ) (held : ℕ) (m : Meaning) (number : ℕ) (values : List ℕ) (place : ℕ) : Type 0 where
@@ -97,54 +97,52 @@ pub data Notes (file scratch tape : List ℕ) (held : ℕ) (m : Meaning) (offset
   lacks : NoScratch file scratch m offset 16 [] offset → x ≡ noting (note.refused 16 [] offset) tape scratch → Notes file scratch tape held m offset x
 
 module _ (file scratch tape : List ℕ) (held : ℕ) (e : Event) (offset : ℕ) (short : ltb maxLength (length file) ≡ false) where
-  abbrev handed : Record
-  handed = record { event = e; offset = offset }
-
-  asked-is : askedOf file handed ≡ eventAsked file e offset
+  asked-is : askedOf file (recordOf e offset) ≡ eventAsked file e offset
   unfolding askedOf
   asked-is = rw short
 
-  note-plain : hasBytes e ≡ false → noteOf file scratch tape held handed ≡ putNote scratch tape held (meaningAt file e offset)
+  note-plain : hasBytes e ≡ false → noteOf file scratch tape held (recordOf e offset) ≡ putNote scratch tape held (meaningAt file e offset)
   unfolding noteOf meaningAt
   note-plain h = rw (h, plain-means e (bytesAsked file (eventAsked file e offset)) h .0)
 
   module _ (h : hasBytes e ≡ true) (start n : ℕ) where
-    pub note-file : eventAsked file e offset ≡ inFile start n → noteOf file scratch tape held handed ≡ putNote scratch tape held (meaningAt file e offset)
+    pub note-file : eventAsked file e offset ≡ inFile start n → noteOf file scratch tape held (recordOf e offset) ≡ putNote scratch tape held (meaningAt file e offset)
     unfolding noteOf textNote lengthSaid scratchAfter partSaid meaningAt bytesAsked
     note-file d = rw (h, asked-is, d, lengthSaid, textNote, asked-is, d)
 
-    module _ (d : eventAsked file e offset ≡ wide start n) where
-      pub note-long : leb (length (wideText file start n)) (length scratch) ≡ false → noteOf file scratch tape held handed ≡ noting (note.refused 16 [] offset) tape scratch
+    module _ (d : eventAsked file e offset ≡ inUtf16 start n) where
+      pub note-long : leb (length (utf16Text file start n)) (length scratch) ≡ false → noteOf file scratch tape held (recordOf e offset) ≡ noting (note.refused 16 [] offset) tape scratch
       unfolding noteOf textNote lengthSaid scratchAfter
       note-long f = rw (h, asked-is, d, lengthSaid, f, textNote, asked-is, d, scratchAfter, f)
 
-      pub note-wide : leb (length (wideText file start n)) (length scratch) ≡ true → noteOf file scratch tape held handed ≡ putNote (wideText file start n ++ drop (length (wideText file start n)) scratch) tape held (meaningAt file e offset)
+      pub note-changed : leb (length (utf16Text file start n)) (length scratch) ≡ true → noteOf file scratch tape held (recordOf e offset) ≡ putNote (utf16Text file start n ++ drop (length (utf16Text file start n)) scratch) tape held (meaningAt file e offset)
       unfolding noteOf textNote lengthSaid scratchAfter partSaid meaningAt bytesAsked
-      note-wide f =
-          let t : List ℕ = wideText file start n in
+      note-changed f =
+          let t : List ℕ = utf16Text file start n in
           let g : leb (length t) (length (t ++ drop (length t) scratch)) ≡ true = le-leb (length t) (length (t ++ drop (length t) scratch)) (simp length-append (omega arith)) in
           rw (h, asked-is, d, lengthSaid, f, textNote, asked-is, d, scratchAfter, f, partSaid, g, take-append-seam t (drop (length t) scratch))
 
-      note-utf16 : e ≡ String → Notes file scratch tape held (meaningAt file e offset) offset (noteOf file scratch tape held handed)
+      note-utf16 : e ≡ String → Notes file scratch tape held (meaningAt file e offset) offset (noteOf file scratch tape held (recordOf e offset))
       unfolding meaningAt bytesAsked meaningOf
-      note-utf16 k = go (leb (length (wideText file start n)) (length scratch)) refl
+      note-utf16 k = go (leb (length (utf16Text file start n)) (length scratch)) refl
         where
-          go : (b : Bool) → leb (length (wideText file start n)) (length scratch) ≡ b → Notes file scratch tape held (meaningAt file e offset) offset (noteOf file scratch tape held handed)
+          go : (b : Bool) → leb (length (utf16Text file start n)) (length scratch) ≡ b → Notes file scratch tape held (meaningAt file e offset) offset (noteOf file scratch tape held (recordOf e offset))
           go true f =
-              let l : length (wideText file start n) ≤ length scratch = leb-true _ _ f in
-              puts (wideText file start n ++ drop (length (wideText file start n)) scratch) (rw (length-append, length-drop) (omega arith)) (note-wide f)
+              let l : length (utf16Text file start n) ≤ length scratch = leb-true _ _ f in
+              puts (utf16Text file start n ++ drop (length (utf16Text file start n)) scratch) (rw (length-append, length-drop) (omega arith)) (note-changed f)
           go false f =
               lacks (record { says = (refl, refl, refl); start = start; count = n; stands = rw (← k) d; is = rw (d, k); long = leb-false _ _ f }) (note-long f)
 
-  note-asked : (a : Asked) → eventAsked file e offset ≡ a → Given file e a → hasBytes e ≡ true → Notes file scratch tape held (meaningAt file e offset) offset (noteOf file scratch tape held handed)
-  note-asked (denied number values) d g h = absurd (true≢false (sym h ∙ g))
+  note-asked : (a : Asked) → eventAsked file e offset ≡ a → Given file e a → hasBytes e ≡ true → Notes file scratch tape held (meaningAt file e offset) offset (noteOf file scratch tape held (recordOf e offset))
+  note-asked noBytes d g h = absurd (true≢false (sym h ∙ g))
+  note-asked (denied number values) d g h = absurd g
   note-asked (inFile start n) d g h = puts scratch refl (note-file h start n d)
-  note-asked (wide start n) d g h = note-utf16 h start n d (g .0)
+  note-asked (inUtf16 start n) d g h = note-utf16 h start n d (g .0)
 
-  notes : Given file e (eventAsked file e offset) → Notes file scratch tape held (meaningAt file e offset) offset (noteOf file scratch tape held handed)
+  notes : Given file e (eventAsked file e offset) → Notes file scratch tape held (meaningAt file e offset) offset (noteOf file scratch tape held (recordOf e offset))
   notes g = go (hasBytes e) refl
     where
-      go : (b : Bool) → hasBytes e ≡ b → Notes file scratch tape held (meaningAt file e offset) offset (noteOf file scratch tape held handed)
+      go : (b : Bool) → hasBytes e ≡ b → Notes file scratch tape held (meaningAt file e offset) offset (noteOf file scratch tape held (recordOf e offset))
       go true h = note-asked (eventAsked file e offset) refl g h
       go false h = puts scratch refl (note-plain h)
 
@@ -178,7 +176,7 @@ ends-same file s scratch t tape held left l k next ended w = w
 ends-same file s scratch t tape held left l k next stopped w = w
 ends-same file s scratch t tape held left l k next (refused number values place) w = refuses-same file s scratch t tape held l k next number values place w
 
-module _ (n : ℕ) (file scratch tape : List ℕ) (held : ℕ) (r : Reader) (e : Event) (offset : ℕ) (called : nextOf file r .answer ≡ event e offset) where
+module _ (n : ℕ) (file scratch tape : List ℕ) (held : ℕ) (r : Reader) (e : Event) (offset : ℕ) (called : nextOf file r .answer ≡ eventAt e offset) where
   abbrev means-now : Meaning
   means-now = meaningAt file e offset
 
@@ -224,8 +222,8 @@ run-told zero file b scratch tape held r = stop-here zero file scratch tape held
 run-told (suc n) file b scratch tape held r = go (nextOf file r .answer) refl (next-handed file r) (λ (s t : List ℕ) (h : ℕ) (q : Reader). run-told n file b s t h q)
   where
     go : (a : Said) → nextOf file r .answer ≡ a → Handed file a → ((s t : List ℕ) (h : ℕ) (q : Reader) → Transcribed n file s t h q (runOf n file s t h q)) → Transcribed (suc n) file scratch tape held r (runOf (suc n) file scratch tape held r)
-    go (event e offset) c g ih =
-        rw c (event-run n file scratch tape held r e offset c (given-allowed file b e (eventAsked file e offset) g) _ (notes file scratch tape held e offset (next-short file r e offset c) g) (λ (s t : List ℕ) (h : ℕ). ih s t h (nextOf file r .state)))
+    go (event e) c g ih =
+        rw c (event-run n file scratch tape held r (e .event) (e .offset) c (given-allowed file b (e .event) (eventAsked file (e .event) (e .offset)) g) _ (notes file scratch tape held (e .event) (e .offset) (next-short file r e c) g) (λ (s t : List ℕ) (h : ℕ). ih s t h (nextOf file r .state)))
     go reader.ended c g ih = rw c (stop-here (suc n) file scratch tape held r scratch ended refl (rw (c, told)))
     go (reader.refused number values place) c g ih =
         rw c (stop-here (suc n) file scratch tape held r scratch (refused number values place) refl (rw (c, told) (refl, refl, refl, g)))

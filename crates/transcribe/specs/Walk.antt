@@ -7,18 +7,18 @@ use lib.Dec.{eqb}
 use lib.ListN.{length}
 use Rattle.number.specs.Width.{bytesIn}
 use Rattle.event.specs.declared.Event.{Event}
-use Rattle.reader.specs.Layout.{dueIn}
-use Rattle.reader.specs.Request.{eventAsked}
-use Rattle.reader.specs.Said.{askedSaid}
+use Rattle.layout.specs.Layout.{dueIn}
+use Rattle.layout.specs.Bytes.{eventAsked}
+use Rattle.layout.specs.Said.{askedSaid}
+use Rattle.layout.specs.declared.layout.Due.{Due}
+use Rattle.layout.specs.declared.layout.Due.the-variants.{Member}
+use Rattle.layout.specs.declared.layout.Layout.{Layout}
+use Rattle.layout.specs.declared.layout.Standing.{Standing}
+use Rattle.layout.specs.declared.lookup.Asked.{Asked as AskedRead}
+use Rattle.layout.specs.declared.frame.Frame.{Frame}
 use Rattle.reader.specs.State.{maxLength}
-use Rattle.reader.specs.declared.layout.Due.{Due}
-use Rattle.reader.specs.declared.layout.Due.the-variants.{Member}
-use Rattle.reader.specs.declared.layout.Layout.{Layout}
-use Rattle.reader.specs.declared.layout.Standing.{Standing}
-use Rattle.reader.specs.declared.request.Asked.{Asked as AskedRead}
-use Rattle.reader.specs.declared.state.Frame.{Frame}
 use Rattle.reader.specs.declared.state.Reader.{Reader}
-use Rattle.transcribe.specs.Asking.{Given}
+use Rattle.transcribe.specs.HandedLaws.{Given}
 
 -- the root where nothing is open, else what the innermost container says, which stands there
 unfoldable pub dueNow : List ℕ → Layout → ℕ → ℕ → Frame → Standing → Due
@@ -26,8 +26,8 @@ dueNow file l root depth f s = cond (eqb depth 0) (Member root) (dueIn file l f 
 
 -- the reader that has these containers open
 unfoldable pub within : List ℕ → Layout → ℕ → ℕ → List Frame → Reader
-within file l place held frames =
-    record { fresh = false; length = length file; offsets = bytesIn (l .offsets); refs = bytesIn (l .refs); count = l .count; table = l .table; place = place; held = held; frames = frames }
+within file l place depth frames =
+    record { fresh = false; length = length file; offsets = bytesIn (l .offsets); refs = bytesIn (l .refs); count = l .count; table = l .table; place = place; depth = depth; frames = frames }
 
 -- an event that a reader handed out, with where its bytes stand
 pub record Notable (file : List ℕ) (e : Event) (bytes : AskedRead) (offset : ℕ) : Type 0 where

@@ -4,9 +4,9 @@ mod walk;
 
 use crate::walk::refused;
 use crate::walk::walk;
-use reader::answer::Refusal;
-use reader::trailer::TrailerRead;
-use reader::trailer::trailer_of;
+use layout::refusal::Refusal;
+use layout::trailer::TrailerRead;
+use layout::trailer::trailer_of;
 ghost use mathlib.Core.Path.{_≡_};
 ghost use Rattle.transcribe.specs.Run.{run, transcriptOf};
 ghost use Rattle.transcribe.specs.Said.{endSaid};

@@ -1,16 +1,17 @@
 // One event put on the tape.
 use event::Event;
-use reader::answer::Refusal;
-use reader::request::Asked;
+use layout::lookup::Asked;
+use layout::refusal::Refusal;
 use tape::append::Appended;
-use tape::append::put;
+use tape::append::append_unchecked;
 use unicode::changed::Changed;
 use unicode::utf16::utf16_to_utf8;
 ghost use mathlib.Core.Bool.{false};
 ghost use mathlib.Core.List.{[]};
 ghost use mathlib.Core.Path.{_≡_};
 ghost use Rattle.event.specs.Meaning.{meaningOf};
-ghost use Rattle.reader.specs.Request.{hasBytes};
+ghost use Rattle.layout.specs.Bytes.{hasBytes};
+ghost use Rattle.reader.specs.Machine.{recordOf};
 ghost use Rattle.tape.specs.Append.{said, appendOf, appendTo};
 ghost use Rattle.transcribe.specs.Note.{fromTape, noting, noteOf};
 ghost use Rattle.transcribe.specs.Said.{noteSaid};
@@ -40,20 +41,20 @@ pub(crate) fn note(
     offset: u64,
 ) -> NoteAnswer
     requires { ⌜ Notable (now file) event bytes offset ⌝ }
-    ensures { λ r. ⌜ noting (noteSaid r) (now (tape .exit)) (now (scratch .exit)) ≡ noteOf (now (file .entry)) (now (scratch .entry)) (now (tape .entry)) held (record { event = event; offset = offset }) ⌝ }
+    ensures { λ r. ⌜ noting (noteSaid r) (now (tape .exit)) (now (scratch .exit)) ≡ noteOf (now (file .entry)) (now (scratch .entry)) (now (tape .entry)) held (recordOf event offset) ⌝ }
 {
     match bytes {
-        Asked::Denied(_) => note_plain(tape, held, event),
+        Asked::NoBytes => note_plain(tape, held, event),
         Asked::InFile(part) => {
             let start = part.start;
             let end = start + part.length;
-            noted(put(tape, held, event, &file[start..end]))
+            noted(append_unchecked(tape, held, event, &file[start..end]))
         }
-        Asked::Wide(part) => {
+        Asked::InUtf16(part) => {
             let start = part.start;
             let end = start + part.length;
             match utf16_to_utf8(&file[start..end], scratch) {
-                Changed::Written(n) => noted(put(tape, held, event, &scratch[..n])),
+                Changed::Written(n) => noted(append_unchecked(tape, held, event, &scratch[..n])),
                 Changed::NoRoom => NoteAnswer::Fails(Failure::Refused(
                     Refusal::NoRoomForText,
                     offset,
@@ -62,6 +63,8 @@ pub(crate) fn note(
                 Changed::NotText => NoteAnswer::Fails(Failure::Refused(Refusal::WrongFile, 0)),
             }
         }
+        // What was looked up in a file is given by it.
+        Asked::Denied(refusal) => NoteAnswer::Fails(Failure::Refused(refusal, 0)),
     }
 }
 
@@ -71,7 +74,7 @@ pub(crate) fn note_plain(tape: &mut [u8], held: usize, event: Event) -> NoteAnsw
     ensures { λ r. ⌜ noteSaid r ≡ fromTape (appendOf (now (tape .entry)) held (meaningOf event [])) ⌝ }
     ensures { λ _. ⌜ now (tape .exit) ≡ appendTo (now (tape .entry)) held (meaningOf event []) ⌝ }
 {
-    noted(put(tape, held, event, b""))
+    noted(append_unchecked(tape, held, event, b""))
 }
 
 // What the tape answers is the note's answer.

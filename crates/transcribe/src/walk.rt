@@ -6,26 +6,26 @@ use crate::note::NoteAnswer;
 use crate::note::note;
 use crate::note::note_plain;
 use event::Event;
+use layout::frame::Frame;
+use layout::layout::Due;
+use layout::layout::Layout;
+use layout::layout::Standing;
+use layout::layout::due_in;
+use layout::layout::stands_at;
+use layout::lookup::Look;
+use layout::lookup::look_up;
+use layout::lookup::start_of;
+use layout::refusal::Refusal;
 use object::container::container_at;
-use reader::answer::Refusal;
-use reader::layout::Due;
-use reader::layout::Layout;
-use reader::layout::Standing;
-use reader::layout::due_in;
-use reader::layout::stands_at;
-use reader::lookup::Look;
-use reader::lookup::look_up;
-use reader::lookup::start_of;
-use reader::state::Frame;
 use reader::state::Reader;
 use reader::state::is_open;
 ghost use mathlib.Core.Path.{_≡_};
 ghost use Prim.Native.Nat.{_≤_, _-_};
 ghost use lib.ListN.{length};
-ghost use Rattle.reader.specs.Layout.{lookOf};
+ghost use Rattle.layout.specs.Layout.{lookOf};
+ghost use Rattle.layout.specs.Said.{numberOf, valuesOf};
 ghost use Rattle.reader.specs.Machine.{arrive};
 ghost use Rattle.reader.specs.Next.{laidOut};
-ghost use Rattle.reader.specs.Said.{numberOf, valuesOf};
 ghost use Rattle.reader.specs.State.{maxLength};
 ghost use Rattle.transcribe.specs.Run.{run, refused as refusedEnd, endOf, finishedOf, onward};
 ghost use Rattle.transcribe.specs.Said.{failSaid, endSaid};
@@ -73,15 +73,9 @@ pub(crate) fn walk(
                     continue;
                 }
             },
-            Due::Member(object) => match look_up(file, layout, object) {
-                Look::Barred(refusal) => {
-                    return refused(refusal, place, held);
-                }
-                Look::Missing => {
-                    return refused(Refusal::WrongFile, 0, held);
-                }
-                Look::Faulty(refusal, offset) => {
-                    return refused(refusal, offset, held);
+            Due::Member(object) => match look_up(file, layout, object, place) {
+                Look::Refused(refusal, refused_at) => {
+                    return refused(refusal, refused_at, held);
                 }
                 Look::Scalar(event, bytes, offset) => match note(
                     file,

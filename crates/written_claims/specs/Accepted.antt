@@ -6,7 +6,7 @@ use Prim.Native.Nat.{_≤_}
 use lib.ListN.{length}
 use Rattle.event.specs.Format.{maxOpen, maxLength}
 use Rattle.event.specs.Meaning.{Meaning}
-use Rattle.reader.specs.declared.layout.Layout.{Layout}
+use Rattle.layout.specs.declared.layout.Layout.{Layout}
 use Rattle.tape.specs.EventsLaws.{AllOnTape}
 use Rattle.written.specs.File.{fileFor}
 use Rattle.written.specs.Graph.{pieceOf}

@@ -11,11 +11,13 @@ use lib.Dec.{eqb, ltb, lit≤}
 use lib.ListN.{length, getD, set, drop, length-map, replicate, length-set}
 use lib.Seq.{getD-set-other, getD-set-same}
 use Rattle.event.specs.declared.Event.{Event}
-use Rattle.reader.specs.Machine.{Source, container, Said, event, ended, Step, step, startOf, arrive, stepOf}
-use Rattle.reader.specs.Machine as machine
-use Rattle.reader.specs.State.{noFrame, nextIn, maxOpen, endedReader, moved}
-use Rattle.reader.specs.declared.layout.Due.the-variants.{Close, Member}
-use Rattle.reader.specs.declared.state.Frame.{Frame}
+use Rattle.layout.specs.Looked.{Source, container, startOf}
+use Rattle.layout.specs.Looked as looked
+use Rattle.layout.specs.Frame.{newFrame, noFrame, nextIn}
+use Rattle.layout.specs.declared.layout.Due.the-variants.{Close, Member}
+use Rattle.layout.specs.declared.frame.Frame.{Frame}
+use Rattle.reader.specs.Machine.{Said, eventAt, ended, Step, step, arrive, stepOf}
+use Rattle.reader.specs.State.{maxOpen, endedReader, moved}
 use Rattle.written.specs.Graph.{Scalar, Kind, arr, dic, Piece, start, Name, val, box, kids, evens, odds, order, number, bodyOf, objectOf, scalar, end}
 use Rattle.written.specs.NameLaws.{In, drop-lt, drop-next, drop-getD, drop-done, getD-map-lt, length-evens, in-drop, in-turn}
 use Rattle.written.specs.NumberLaws.{number-one, kid-named, root-named, root-number}
@@ -159,7 +161,7 @@ module _ (all : List Piece) (file : List ℕ) (src : Source) (placeOf : Name →
           let q : length (map (number all) (evens ms)) ≡ length ms / 2 = omega (arith, e, length-map (evens ms) (number all), length-evens ms) in
           s .look ∙ rw q
 
-  pub look-val : (s : Scalar) → In (val s) (order all) → src .look (number all (val s)) ≡ machine.scalar (eventBy all src s) (placeOf (val s))
+  pub look-val : (s : Scalar) → In (val s) (order all) → src .look (number all (val s)) ≡ looked.scalar (eventBy all src s) (placeOf (val s))
   unfolding objectOf eventBy eventIn
   look-val s h = let r = shows (val s) h in rw (r .look)
 
@@ -180,10 +182,10 @@ module _ (all : List Piece) (file : List ℕ) (src : Source) (placeOf : Name →
   next-named n p x l f o = kid-named all p (o .kind) (o .post) x (o .begins) (in-drop x (kids 0 (suc p) (o .post)) (f .position) l (o .rest))
 
   -- a frame for a container that begins at n
-  abbrev pub newFrame : ℕ → Kind → List Piece → Frame
-  newFrame n k post = record { object = number all (box n); position = 0; length = counted k (length (kids 0 (suc n) post)) }
+  abbrev pub frameFor : ℕ → Kind → List Piece → Frame
+  frameFor n k post = newFrame (number all (box n)) (counted k (length (kids 0 (suc n) post)))
 
-  pub fresh-frame : (n : ℕ) (k : Kind) (post : List Piece) → drop n all ≡ start k ∷ post → In (box n) (order all) → Parity (inside k) (length (kids 0 (suc n) post)) → Known (suc n) n (kids 0 (suc n) post) (newFrame n k post)
+  pub fresh-frame : (n : ℕ) (k : Kind) (post : List Piece) → drop n all ≡ start k ∷ post → In (box n) (order all) → Parity (inside k) (length (kids 0 (suc n) post)) → Known (suc n) n (kids 0 (suc n) post) (frameFor n k post)
   fresh-frame n k post e h p = record { kind = k; post = post; before = omega arith; begins = e; named = h; obj-is = refl; len-is = refl; even = p; upto = omega arith; rest = refl }
 
   -- a machine that goes on by stepOf where containers are open, and has ended where none is
@@ -222,7 +224,7 @@ module _ (all : List Piece) (file : List ℕ) (src : Source) (placeOf : Name →
         let h : In (val s) (order all) = next-named n p (val s) l f (o .0) in
         let fr′ : List Frame = set fr k (nextIn f) in
         let t : getD fr′ k noFrame ≡ nextIn f = getD-set-same fr k (nextIn f) noFrame (omega arith) in
-        rw suc-add (onward (length es + m) (stateOf q fr (p ∷ ps)) (event (by s) (placeOf (val s))) (stateOf (placeOf (val s)) fr′ (p ∷ ps)) (saidFrom by placeOf (suc n) (p ∷ ps) es ++ replicate m ended)
+        rw suc-add (onward (length es + m) (stateOf q fr (p ∷ ps)) (eventAt (by s) (placeOf (val s))) (stateOf (placeOf (val s)) fr′ (p ∷ ps)) (saidFrom by placeOf (suc n) (p ∷ ps) es ++ replicate m ended)
         (opened q k fr few ∙ frames.step-scalar base q k fr src (number all (val s)) (by s) (placeOf (val s)) (due-member n p (val s) l f (o .0)) (look-val s h))
         (simulates es (suc n) (later b ∷ cs) (p ∷ ps) fr′ (placeOf (val s)) m (drop-next all n (scalar s) es d) (passed (takes b s) _ e .1) c few (length-set fr k (nextIn f) ∙ full)
         (rw t (next-known n p (val s) l f (o .0)), olders n (λ (j : ℕ). kids (suc j) (suc n) es) fr ps k (nextIn f) (omega arith) (o .1))))
@@ -235,25 +237,25 @@ module _ (all : List Piece) (file : List ℕ) (src : Source) (placeOf : Name →
         let w = passed (ltb (suc (length cs)) maxOpen) _ (passed (opens b) _ e .1) in
         let lt : suc (length cs) < maxOpen = ltb-true (suc (length cs)) maxOpen (w .0) in
         let v : Parity (inside a) (length (kids 0 (suc n) es)) = parity maxOpen es (inside a ∷ later b ∷ cs) 0 (suc n) (w .1) in
-        let new : Frame = newFrame n a es in
+        let new : Frame = frameFor n a es in
         let fr′ : List Frame = set fr k (nextIn f) in
         let fr″ : List Frame = set fr′ (suc k) new in
         let t : getD fr′ k noFrame ≡ nextIn f = getD-set-same fr k (nextIn f) noFrame (omega arith) in
         let full′ : length fr′ ≡ maxOpen = length-set fr k (nextIn f) ∙ full in
         let t′ : getD fr″ (suc k) noFrame ≡ new = getD-set-same fr′ (suc k) new noFrame (omega arith) in
         let o′ : Frames (suc n) (λ (j : ℕ). kids (suc j) (suc n) es) fr′ (p ∷ ps) = (rw t (next-known n p (box n) l f (o .0)), olders n (λ (j : ℕ). kids (suc (suc j)) (suc n) es) fr ps k (nextIn f) (omega arith) (o .1)) in
-        rw suc-add (onward (length es + m) (stateOf q fr (p ∷ ps)) (event (startOf (shapeOf a) (counted a (length (kids 0 (suc n) es)))) (placeOf (box n))) (stateOf (placeOf (box n)) fr″ (n ∷ p ∷ ps)) (saidFrom by placeOf (suc n) (n ∷ p ∷ ps) es ++ replicate m ended)
+        rw suc-add (onward (length es + m) (stateOf q fr (p ∷ ps)) (eventAt (startOf (shapeOf a) (counted a (length (kids 0 (suc n) es)))) (placeOf (box n))) (stateOf (placeOf (box n)) fr″ (n ∷ p ∷ ps)) (saidFrom by placeOf (suc n) (n ∷ p ∷ ps) es ++ replicate m ended)
         (opened q k fr few ∙ frames.step-start base q k fr src (number all (box n)) (shapeOf a) (counted a (length (kids 0 (suc n) es))) (placeOf (box n)) (due-member n p (box n) l f (o .0)) (look-box n a es d h v) (none-open n n (λ (j : ℕ). kids j n (start a ∷ es)) fr (p ∷ ps) h (omega arith) o) (omega arith))
         (simulates es (suc n) (inside a ∷ later b ∷ cs) (n ∷ p ∷ ps) fr″ (placeOf (box n)) m (drop-next all n (start a) es d) (w .1) (ap suc c) (omega arith) (length-set fr′ (suc k) new ∙ full′)
         (rw t′ (fresh-frame n a es d h v), apart (suc n) (λ (j : ℕ). kids (suc j) (suc n) es) fr′ (p ∷ ps) (suc k) new (omega arith) o′)))
     simulates (end ∷ es) n (b ∷ cs) [] fr q m d e c few full o = absurd (omega arith)
     simulates (end ∷ es) n (b ∷ cs) (p ∷ []) fr q m d e c few full o =
-        rw suc-add (onward (length es + m) (stateOf q fr (p ∷ [])) (event EndCollection (placeOf (box p))) endedReader (saidFrom by placeOf (suc n) [] es ++ replicate m ended)
+        rw suc-add (onward (length es + m) (stateOf q fr (p ∷ [])) (eventAt EndCollection (placeOf (box p))) endedReader (saidFrom by placeOf (suc n) [] es ++ replicate m ended)
         (opened q 0 fr few ∙ frames.step-last base q fr src (placeOf (box p)) (due-end n p (getD fr 0 noFrame) (o .0)))
         (simulates es (suc n) cs [] fr q m (drop-next all n end es d) (passed (closes b) _ e .1) (omega arith) (omega arith) full tt))
     simulates (end ∷ es) n (b ∷ cs) (p ∷ (p′ ∷ ps)) fr q m d e c few full o =
         let k = length ps in
-        rw suc-add (onward (length es + m) (stateOf q fr (p ∷ (p′ ∷ ps))) (event EndCollection (placeOf (box p))) (stateOf q (set fr (suc k) noFrame) (p′ ∷ ps)) (saidFrom by placeOf (suc n) (p′ ∷ ps) es ++ replicate m ended)
+        rw suc-add (onward (length es + m) (stateOf q fr (p ∷ (p′ ∷ ps))) (eventAt EndCollection (placeOf (box p))) (stateOf q (set fr (suc k) noFrame) (p′ ∷ ps)) (saidFrom by placeOf (suc n) (p′ ∷ ps) es ++ replicate m ended)
         (opened q (suc k) fr few ∙ frames.step-end base q k fr src (placeOf (box p)) (due-end n p (getD fr (suc k) noFrame) (o .0)))
         (simulates es (suc n) cs (p′ ∷ ps) (set fr (suc k) noFrame) q m (drop-next all n end es d) (passed (closes b) _ e .1) (omega arith) (omega arith) (length-set fr (suc k) noFrame ∙ full)
         (olders n (λ (j : ℕ). kids j (suc n) es) fr (p′ ∷ ps) (suc k) noFrame (omega arith) (o .1))))
@@ -267,8 +269,8 @@ unfolding whole fits kids saidFrom
 read-from [] file src placeOf sh base next opened over first q fr begins full m e = absurd (false≢true e)
 read-from (scalar s ∷ []) file src placeOf sh base next opened over first q fr begins full m e =
     let all = scalar s ∷ [] in
-    let l : src .look 0 ≡ machine.scalar (eventBy all src s) (placeOf (val s)) = ap (src .look) (sym (root-number all (val s) [] refl)) ∙ look-val all file src placeOf sh s (root-named all (val s) [] refl) in
-    rw suc-add (onward all file src placeOf sh base next opened over (0 + m) first (event (eventBy all src s) (placeOf (val s))) endedReader (replicate m ended)
+    let l : src .look 0 ≡ looked.scalar (eventBy all src s) (placeOf (val s)) = ap (src .look) (sym (root-number all (val s) [] refl)) ∙ look-val all file src placeOf sh s (root-named all (val s) [] refl) in
+    rw suc-add (onward all file src placeOf sh base next opened over (0 + m) first (eventAt (eventBy all src s) (placeOf (val s))) endedReader (replicate m ended)
     (begins ∙ rw l (frames.root-scalar (moved base q 0 fr) 0 (eventBy all src s) (placeOf (val s)) refl))
     (rw zero-add (all-ended all file src placeOf sh base next opened over m)))
 read-from (scalar s ∷ (x ∷ es)) file src placeOf sh base next opened over first q fr begins full m e = absurd (false≢true e)
@@ -280,12 +282,12 @@ read-from (start k ∷ es) file src placeOf sh base next opened over first q fr 
     let p : Parity (inside k) (length (kids 0 1 es)) = parity maxOpen es (inside k ∷ []) 0 1 (w .1) in
     let len : ℕ = counted k (length (kids 0 1 es)) in
     let l : src .look 0 ≡ container (shapeOf k) len (placeOf (box 0)) = ap (src .look) (sym z) ∙ look-box all file src placeOf sh 0 k es refl h p in
-    let new : Frame = newFrame all file src placeOf sh 0 k es in
-    let same : record { object = 0; position = 0; length = len } ≡ new = ap (λ (i : ℕ). record { object = i; position = 0; length = len }) (sym z) in
+    let new : Frame = frameFor all file src placeOf sh 0 k es in
+    let same : newFrame 0 len ≡ new = ap (λ (i : ℕ). newFrame i len) (sym z) in
     let fr′ : List Frame = set fr 0 new in
     let t : getD fr′ 0 noFrame ≡ new = getD-set-same fr 0 new noFrame (omega arith) in
-    rw suc-add (onward all file src placeOf sh base next opened over (length es + m) first (event (startOf (shapeOf k) (counted k (length (kids 0 1 es)))) (placeOf (box 0))) (frames.inside base (placeOf (box 0)) 0 fr′) (saidFrom (eventBy all src) placeOf 1 (0 ∷ []) es ++ replicate m ended)
-    (begins ∙ rw l (frames.root-start base q 0 fr (shapeOf k) len (placeOf (box 0))) ∙ ap (λ (f : Frame). step (frames.inside base (placeOf (box 0)) 0 (set fr 0 f)) (event (startOf (shapeOf k) len) (placeOf (box 0)))) same)
+    rw suc-add (onward all file src placeOf sh base next opened over (length es + m) first (eventAt (startOf (shapeOf k) (counted k (length (kids 0 1 es)))) (placeOf (box 0))) (frames.inside base (placeOf (box 0)) 0 fr′) (saidFrom (eventBy all src) placeOf 1 (0 ∷ []) es ++ replicate m ended)
+    (begins ∙ rw l (frames.root-start base q 0 fr (shapeOf k) len (placeOf (box 0))) ∙ ap (λ (f : Frame). step (frames.inside base (placeOf (box 0)) 0 (set fr 0 f)) (eventAt (startOf (shapeOf k) len) (placeOf (box 0)))) same)
     (simulates all file src placeOf sh base next opened over es 1 (inside k ∷ []) (0 ∷ []) fr′ (placeOf (box 0)) m refl (w .1) refl (lit≤ tt) (length-set fr 0 new ∙ full)
     (rw t (fresh-frame all file src placeOf sh 0 k es refl h p), tt)))
 read-from (end ∷ es) file src placeOf sh base next opened over first q fr begins full m e = absurd (false≢true e)

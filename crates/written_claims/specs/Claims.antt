@@ -10,12 +10,12 @@ use Rattle.number.specs.Width.{bytesIn}
 use Rattle.event.specs.Meaning.{Meaning}
 use Rattle.event.specs.declared.Event.{Event}
 use Rattle.object.specs.Content.{trailerAt}
-use Rattle.reader.specs.Layout.{entryAt, lookOf, sourceOf}
-use Rattle.reader.specs.Machine.{Shape, scalar, container}
+use Rattle.layout.specs.Layout.{entryAt, lookOf, sourceOf}
+use Rattle.layout.specs.Looked.{Shape, scalar, container}
+use Rattle.layout.specs.Trailer.{lays, trailerOf}
+use Rattle.layout.specs.declared.layout.Entry.the-variants.{Of}
+use Rattle.layout.specs.declared.layout.Layout.{Layout}
 use Rattle.reader.specs.Meanings.{meaningAt}
-use Rattle.reader.specs.Trailer.{lays, trailerOf}
-use Rattle.reader.specs.declared.layout.Entry.the-variants.{Of}
-use Rattle.reader.specs.declared.layout.Layout.{Layout}
 use Rattle.tape.specs.Code.{bytesFor}
 use Rattle.written.specs.File.{bytesAt, placeOf, fileOf, fileFor}
 use Rattle.written.specs.FileLaws.{order-some}

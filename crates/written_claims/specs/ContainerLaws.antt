@@ -18,10 +18,10 @@ use Rattle.object.specs.Object.{byKind, objectAt, arrayIn, dictionaryIn}
 use Rattle.object.specs.Object as found
 use Rattle.object.specs.declared.container.Container.the-variants.{Array, Dictionary}
 use Rattle.object.specs.declared.kind.Kind.the-variants as kind
-use Rattle.reader.specs.Layout.{placeIn, given, dueAt, inArray, inDictionary, dueIn}
-use Rattle.reader.specs.declared.layout.Due.the-variants.{Close, Member}
-use Rattle.reader.specs.declared.layout.Layout.{Layout}
-use Rattle.reader.specs.declared.state.Frame.{Frame}
+use Rattle.layout.specs.Layout.{placeIn, given, dueAt, inArray, inDictionary, dueIn}
+use Rattle.layout.specs.declared.layout.Due.the-variants.{Close, Member}
+use Rattle.layout.specs.declared.layout.Layout.{Layout}
+use Rattle.layout.specs.declared.frame.Frame.{Frame}
 use Rattle.written_claims.specs.HeadLaws.{kind-nibble, behind, headed}
 use Rattle.written_claims.specs.NumbersLaws.{numbers-read}
 use Rattle.written_claims.specs.Stands.{Stands, Whole}

@@ -1,4 +1,4 @@
--- {"k": ["k", -1]}, P11 of document 01: it is accepted, what its file's references are, and what reading it gives.
+-- {"k": ["k", -1]}, P11 of docs/FORMAT.md: it is accepted, what its file's references are, and what reading it gives.
 use mathlib.Core.List.{List, [], _∷_, map}
 use mathlib.Core.Option.{none, some}
 use mathlib.Core.Path.{_≡_, refl, ap}
@@ -16,8 +16,8 @@ use Rattle.object.specs.Container.{containerOf, containerAt}
 use Rattle.object.specs.Content.{lengthWidth, extentAt, roomFor, contentAt}
 use Rattle.object.specs.Kind.{kindOf}
 use Rattle.object.specs.Object.{dataIn, utf8In, utf16In, arrayIn, dictionaryIn, byKind, objectAt}
-use Rattle.reader.specs.Layout.{numberAt, entryAt, placeIn, given, dueAt, inArray, inDictionary, dueIn, dueFrom, dueOf, lookIn, lookFrom, lookOf}
-use Rattle.reader.specs.declared.layout.Layout.{Layout}
+use Rattle.layout.specs.Layout.{numberAt, entryAt, placeIn, given, dueAt, inArray, inDictionary, dueIn, standsFrom, standsAt, dueOf, lookIn, lookFrom, lookOf}
+use Rattle.layout.specs.declared.layout.Layout.{Layout}
 use Rattle.tape.specs.Code.{bytesFor, allowed}
 use Rattle.tape.specs.Seven.{groups, seven}
 use Rattle.written.specs.Examples.{examples}
@@ -45,7 +45,7 @@ laid = record { offsets = One; refs = One; count = 4; table = 25 }
 
 -- the dictionary names the key and the array; the array names the key and the number
 pub nested-references : map (references (fileFor nested) laid) (0 ∷ 1 ∷ 2 ∷ 3 ∷ []) ≡ (1 ∷ 2 ∷ []) ∷ [] ∷ (1 ∷ 3 ∷ []) ∷ [] ∷ []
-unfolding references referencesIn manyOf referredFrom referred lookOf lookFrom lookIn entryAt numberAt dueOf dueFrom dueIn inArray inDictionary dueAt given placeIn objectAt byKind kindOf dataIn utf8In utf16In arrayIn dictionaryIn contentAt roomFor extentAt lengthWidth containerAt containerOf bytesIn be onto signedOf isUtf8 wellFormed rowOf unicode.table within
+unfolding references referencesIn manyOf referredFrom referred lookOf lookFrom lookIn entryAt numberAt dueOf standsAt standsFrom dueIn inArray inDictionary dueAt given placeIn objectAt byKind kindOf dataIn utf8In utf16In arrayIn dictionaryIn contentAt roomFor extentAt lengthWidth containerAt containerOf bytesIn be onto signedOf isUtf8 wellFormed rowOf unicode.table within
 nested-references = ap (λ (f : List ℕ). map (references f laid) (0 ∷ 1 ∷ 2 ∷ 3 ∷ [])) (examples .2)
 
 -- reading gives the events with their lengths

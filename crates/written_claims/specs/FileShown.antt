@@ -9,7 +9,7 @@ use Rattle.number.specs.SizeLaws.{fits-itself}
 use Rattle.number.specs.Width.{bytesIn}
 use Rattle.unicode.specs.Bounds.{Below}
 use Rattle.event.specs.Format.{maxOpen}
-use Rattle.reader.specs.Layout.{sourceOf}
+use Rattle.layout.specs.Layout.{sourceOf}
 use Rattle.written.specs.Encoding.{headBytes, numbersBytes, objectBytes}
 use Rattle.written.specs.File.{refSize, bytesAt, placeOf, fileOf}
 use Rattle.written.specs.FileLaws.{length-numbers}

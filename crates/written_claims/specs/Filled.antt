@@ -6,8 +6,9 @@ use lib.ListN.{length}
 use Rattle.event.specs.Meaning.{Meaning, array, dictionary, close, boolean, bytes, date, integer, real, text, uid}
 use Rattle.event.specs.declared.Event.{Event}
 use Rattle.event.specs.declared.Event.the-variants.{EndCollection}
-use Rattle.reader.specs.Machine.{Said, event, Shape, Looked, barred, missing, faulty, scalar, container, startOf}
-use Rattle.reader.specs.Machine as shape
+use Rattle.layout.specs.Looked.{Shape, Looked, barred, missing, faulty, scalar, container, startOf}
+use Rattle.reader.specs.Machine.{Said, eventAt}
+use Rattle.layout.specs.Looked as shape
 use Rattle.transcribe.specs.TranscriptLaws.{Put}
 use Rattle.written.specs.File.{placeOf}
 use Rattle.written.specs.Graph.{Scalar, Kind, arr, dic, Piece, start, end, pieceOf, Name, val, box, kids, meant}
@@ -52,10 +53,10 @@ shapeOf dic = shape.dictionary
 
 unfoldable pub saidFrom : (Scalar → Event) → (Name → ℕ) → ℕ → List ℕ → List Piece → List Said
 saidFrom by at n ps [] = []
-saidFrom by at n ps (graph.scalar s ∷ es) = event (by s) (at (val s)) ∷ saidFrom by at (suc n) ps es
-saidFrom by at n ps (start k ∷ es) = event (startOf (shapeOf k) (counted k (length (kids 0 (suc n) es)))) (at (box n)) ∷ saidFrom by at (suc n) (n ∷ ps) es
+saidFrom by at n ps (graph.scalar s ∷ es) = eventAt (by s) (at (val s)) ∷ saidFrom by at (suc n) ps es
+saidFrom by at n ps (start k ∷ es) = eventAt (startOf (shapeOf k) (counted k (length (kids 0 (suc n) es)))) (at (box n)) ∷ saidFrom by at (suc n) (n ∷ ps) es
 saidFrom by at n [] (end ∷ es) = []
-saidFrom by at n (p ∷ ps) (end ∷ es) = event EndCollection (at (box p)) ∷ saidFrom by at (suc n) ps es
+saidFrom by at n (p ∷ ps) (end ∷ es) = eventAt EndCollection (at (box p)) ∷ saidFrom by at (suc n) ps es
 
 -- the event of a scalar that is looked up
 unfoldable pub eventIn : Looked → Event

@@ -7,12 +7,12 @@ use Rattle.number.specs.Width.{bytesIn}
 use Rattle.event.specs.Meaning.{Meaning}
 use Rattle.event.specs.declared.Event.{Event}
 use Rattle.object.specs.Content.{trailerAt}
-use Rattle.reader.specs.Layout.{lookOf}
-use Rattle.reader.specs.Machine.{Shape, scalar, container}
+use Rattle.layout.specs.Layout.{lookOf}
+use Rattle.layout.specs.Looked.{Shape, scalar, container}
 use Rattle.reader.specs.Meanings.{meaningAt, ended, answers}
 use Rattle.reader.specs.State.{freshReader}
-use Rattle.reader.specs.Trailer.{lays, trailerOf}
-use Rattle.reader.specs.declared.layout.Layout.{Layout}
+use Rattle.layout.specs.Trailer.{lays, trailerOf}
+use Rattle.layout.specs.declared.layout.Layout.{Layout}
 use Rattle.tape.specs.Events.{tapeOf}
 use Rattle.transcribe.specs.Run.{transcriptOf}
 use Rattle.transcribe.specs.TranscriptLaws.{Put, toldOf, meaningsOf}

@@ -1,5 +1,5 @@
--- An answer of the reader hands out an event; the text request gives the bytes of its data or text.
-use mathlib.Core.Bool.{true, cond}
+-- An answer of the reader hands out an event; the text request gives it, with the bytes of its data or text.
+use mathlib.Core.Bool.{cond}
 use mathlib.Core.List.{List, [], _∷_}
 use mathlib.Core.Path.{_≡_}
 use Prim.Native.Nat.{ℕ, _≤_}
@@ -7,9 +7,10 @@ use lib.ListN.{length}
 use Rattle.event.specs.Meaning.{Meaning, array, dictionary, close, boolean, bytes, date, integer, real, text, uid}
 use Rattle.event.specs.declared.Event.{Event}
 use Rattle.unicode.specs.Unicode.{isAscii}
-use Rattle.reader.specs.Machine.{Said, event}
+use Rattle.layout.specs.Bytes.{Asked}
+use Rattle.reader.specs.Machine.{Said, recordOf, eventAt}
 use Rattle.reader.specs.Meanings.{meaningAt}
-use Rattle.reader.specs.Request.{Asked, long, hasBytes, askedOf, lengthSaid, scratchAfter, partSaid}
+use Rattle.reader.specs.Request.{long, askedOf, lengthSaid, scratchAfter, partSaid}
 use Rattle.transcribe.specs.TranscriptLaws.{Put}
 
 -- the bytes of data or text
@@ -44,13 +45,13 @@ pub record Gives (file scratch : List ℕ) (at : ℕ) (a : Asked) (content : Lis
   pub second : partSaid file (scratchAfter file scratch a) a ≡ content
   pub scratch-is : length (scratchAfter file scratch a) ≡ length scratch
 
--- an event with its meaning and offset; if it is data or text, its bytes wherever the scratch has room for them
+-- an event with its meaning and offset; the request gives its bytes wherever the scratch has room for them, none if it isn't data or text
 pub record HandsOut (file : List ℕ) (p : Put) (x : Said) : Type 0 where
   pub e : Event
-  pub is : x ≡ event e (p .offset)
+  pub is : x ≡ eventAt e (p .offset)
   pub means : meaningAt file e (p .offset) ≡ p .meaning
-  pub gives : hasBytes e ≡ true → (scratch : List ℕ) → scratchFor (p .meaning) ≤ length scratch
-      → Gives file scratch (p .offset) (askedOf file (record { event = e; offset = p .offset })) (contentOf (p .meaning))
+  pub gives : (scratch : List ℕ) → scratchFor (p .meaning) ≤ length scratch
+      → Gives file scratch (p .offset) (askedOf file (recordOf e (p .offset))) (contentOf (p .meaning))
 
 -- answer by answer
 abbrev pub HandOut : List ℕ → List Put → List Said → Type 0

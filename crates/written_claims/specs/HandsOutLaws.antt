@@ -12,9 +12,10 @@ use Rattle.event.specs.declared.Event.{Event}
 use Rattle.event.specs.declared.Event.the-variants.{StartArray, StartDictionary, EndCollection, Boolean, Data, Date, Integer, Real, Nan, String, Uid}
 use Rattle.unicode.specs.Unicode.{isAscii, toUtf8}
 use Rattle.object.specs.Content.{part}
-use Rattle.reader.specs.Machine.{Said, event}
+use Rattle.layout.specs.Bytes.{Asked, inFile, inUtf16, noBytes, denied, eventAsked, hasBytes}
+use Rattle.reader.specs.Machine.{Said, eventAt}
 use Rattle.reader.specs.Meanings.{bytesAsked, meaningAt, told}
-use Rattle.reader.specs.Request.{Asked, inFile, wide, denied, long, eventAsked, hasBytes, askedOf, lengthSaid, scratchAfter, partSaid}
+use Rattle.reader.specs.Request.{long, askedOf, lengthSaid, scratchAfter, partSaid}
 use Rattle.reader.specs.State.{maxLength}
 use Rattle.transcribe.specs.TranscriptLaws.{Put, toldOf}
 use Rattle.written_claims.specs.HandsOut.{contentOf, scratchFor, Gives, HandsOut, HandOut}
@@ -35,13 +36,30 @@ content-is (Nan b) s h = absurd (false≢true h)
 content-is String s h = refl
 content-is (Uid n) s h = absurd (false≢true h)
 
-module _ (file : List ℕ) (e : Event) (at : ℕ) (h : hasBytes e ≡ true) (scratch : List ℕ) where
+-- the others have none
+content-none : (e : Event) (s : List ℕ) → hasBytes e ≡ false → contentOf (meaningOf e s) ≡ []
+unfolding hasBytes meaningOf contentOf
+content-none (StartArray n) s h = refl
+content-none (StartDictionary n) s h = refl
+content-none EndCollection s h = refl
+content-none (Boolean b) s h = refl
+content-none Data s h = absurd (true≢false h)
+content-none (Date b) s h = refl
+content-none (Integer i) s h = refl
+content-none (Real x) s h = refl
+content-none (Nan b) s h = refl
+content-none String s h = absurd (true≢false h)
+content-none (Uid n) s h = refl
+
+module _ (file : List ℕ) (e : Event) (at : ℕ) (scratch : List ℕ) where
   gives-by : (a : Asked) → Asks file e a → scratchFor (meaningOf e (bytesAsked file a)) ≤ length scratch → Gives file scratch at a (contentOf (meaningOf e (bytesAsked file a)))
-  unfolding bytesAsked lengthSaid scratchAfter partSaid scratchFor meaningOf
-  gives-by (denied number values) d room = absurd (true≢false (sym h ∙ d))
-  gives-by (inFile start n) d room = rw (content-is e (part file start n) h) (record { first = ap long (sym d); second = refl; scratch-is = refl })
-  gives-by (wide start n) d room =
+  unfolding bytesAsked lengthSaid scratchAfter partSaid scratchFor meaningOf hasBytes
+  gives-by noBytes d room = rw (content-none e [] d) (record { first = refl; second = refl; scratch-is = refl })
+  gives-by (denied number values) d room = absurd d
+  gives-by (inFile start n) d room = rw (content-is e (part file start n) (d .0)) (record { first = ap long (sym (d .1)); second = refl; scratch-is = refl })
+  gives-by (inUtf16 start n) d room =
       let t = toUtf8 (part file start n) in
+      let h : hasBytes e ≡ true = rw (d .0) refl in
       let needs : cond (isAscii t) 0 (length t) ≤ length scratch = rw (d .0) at room in
       let fits : length t ≤ length scratch = rw (d .1) at needs in
       let l : length (t ++ drop (length t) scratch) ≡ length scratch = rw (length-append, length-drop) (omega arith) in
@@ -51,13 +69,13 @@ module _ (file : List ℕ) (e : Event) (at : ℕ) (h : hasBytes e ≡ true) (scr
         scratch-is = rw (le-leb (length t) (length scratch) fits) l;
       })
 
-pub hands-out : (file : List ℕ) → length file ≤ maxLength → (p : Put) (e : Event) → meaningAt file e (p .offset) ≡ p .meaning → Asks file e (eventAsked file e (p .offset)) → HandsOut file p (event e (p .offset))
+pub hands-out : (file : List ℕ) → length file ≤ maxLength → (p : Put) (e : Event) → meaningAt file e (p .offset) ≡ p .meaning → Asks file e (eventAsked file e (p .offset)) → HandsOut file p (eventAt e (p .offset))
 unfolding askedOf meaningAt
 hands-out file short p e m d = record {
   e = e;
   is = refl;
   means = m;
-  gives = λ h scratch room. rw (le-ltb maxLength (length file) short, ← m) (gives-by file e (p .offset) h scratch (eventAsked file e (p .offset)) d (rw m room));
+  gives = λ scratch room. rw (le-ltb maxLength (length file) short, ← m) (gives-by file e (p .offset) scratch (eventAsked file e (p .offset)) d (rw m room));
 }
 
 -- what they mean

@@ -10,10 +10,10 @@ use Rattle.number.specs.Width.{bytesIn}
 use Rattle.unicode.specs.Bounds.{Below}
 use Rattle.event.specs.Format.{magic, maxLength}
 use Rattle.object.specs.Content.{trailerAt}
-use Rattle.reader.specs.Layout.{entryAt}
-use Rattle.reader.specs.Trailer.{lays, trailerOf}
-use Rattle.reader.specs.declared.layout.Entry.the-variants.{Of}
-use Rattle.reader.specs.declared.layout.Layout.{Layout}
+use Rattle.layout.specs.Layout.{entryAt}
+use Rattle.layout.specs.Trailer.{lays, trailerOf}
+use Rattle.layout.specs.declared.layout.Entry.the-variants.{Of}
+use Rattle.layout.specs.declared.layout.Layout.{Layout}
 use Rattle.written.specs.EmissionLaws.{numbered-written}
 use Rattle.written.specs.Encoding.{trailerBytes}
 use Rattle.written.specs.File.{flat, ahead, refSize, bytesAt, body, placeOf, tableAt, offsetSize, table, fileOf}

@@ -8,10 +8,10 @@ use Rattle.number.specs.Width.{bytesIn}
 use Rattle.unicode.specs.Bounds.{Below}
 use Rattle.object.specs.Container.{containerAt}
 use Rattle.object.specs.Object.{objectAt}
-use Rattle.reader.specs.Layout.{entryAt, lookIn, lookFrom, lookOf, dueIn, dueFrom, dueOf}
-use Rattle.reader.specs.declared.layout.Entry.the-variants.{Of}
-use Rattle.reader.specs.declared.layout.Layout.{Layout}
-use Rattle.reader.specs.declared.state.Frame.{Frame}
+use Rattle.layout.specs.Layout.{entryAt, lookIn, lookFrom, lookOf, dueIn, standsFrom, standsAt, dueOf}
+use Rattle.layout.specs.declared.layout.Entry.the-variants.{Of}
+use Rattle.layout.specs.declared.layout.Layout.{Layout}
+use Rattle.layout.specs.declared.frame.Frame.{Frame}
 use Rattle.written_claims.specs.NumbersLaws.{numbers-read}
 use Rattle.written_claims.specs.Stands.{Stands}
 use Rattle.written.specs.Encoding.{numbersBytes}
@@ -28,5 +28,5 @@ module _ (file : List ℕ) (l : Layout) (n at : ℕ) (numbered : n < l .count) (
   look-there = rw (lt-ltb n (l .count) numbered, entry)
 
   pub due-there : (f : Frame) → f .object ≡ n → dueOf file l f ≡ dueIn file l f at (containerAt file at)
-  unfolding dueOf dueFrom
+  unfolding dueOf standsAt standsFrom
   due-there f e = rw (e, lt-ltb n (l .count) numbered, entry)

@@ -7,15 +7,16 @@ use native.Mathlib.Omega.{arith}
 use borrow.Author.Tests.{eq-eqb, ne-eqb, le-ltb}
 use lib.ListN.{length, replicate}
 use Rattle.number.specs.WidthLaws.{allowed}
-use Rattle.reader.specs.Layout.{sourceOf}
+use Rattle.layout.specs.Layout.{sourceOf}
+use Rattle.layout.specs.Frame.{noFrame}
+use Rattle.layout.specs.Trailer.{lays, trailerOf}
+use Rattle.layout.specs.declared.layout.Layout.{Layout}
+use Rattle.layout.specs.declared.frame.Frame.{Frame}
 use Rattle.reader.specs.Machine as machine
 use Rattle.reader.specs.Machine.{Said, step, arrive, stepOf}
 use Rattle.reader.specs.Meanings.{Told, ended, told, answers}
 use Rattle.reader.specs.Next.{laidOut, begin, withRefs, goOn, nextOf}
-use Rattle.reader.specs.State.{maxOpen, maxLength, noFrame, freshReader, endedReader, moved}
-use Rattle.reader.specs.Trailer.{lays, trailerOf}
-use Rattle.reader.specs.declared.layout.Layout.{Layout}
-use Rattle.reader.specs.declared.state.Frame.{Frame}
+use Rattle.reader.specs.State.{maxOpen, maxLength, freshReader, endedReader, moved}
 use Rattle.reader.specs.declared.state.Reader.{Reader}
 use Rattle.written.specs.Graph.{Piece, Name}
 use Rattle.written.specs.Shape.{whole}

@@ -12,8 +12,8 @@ use Rattle.number.specs.Width.{bytesIn}
 use Rattle.number.specs.WidthLaws.{bytesIn-pos}
 use Rattle.number.specs.declared.width.Width.{Width}
 use Rattle.unicode.specs.Bounds.{Below}
-use Rattle.reader.specs.Layout.{numberAt}
-use Rattle.reader.specs.declared.layout.Entry.the-variants.{Of}
+use Rattle.layout.specs.Layout.{numberAt}
+use Rattle.layout.specs.declared.layout.Entry.the-variants.{Of}
 use Rattle.written_claims.specs.Stands.{Stands, stands-front, stands-back, stands-inside, stands-number}
 use Rattle.written.specs.Encoding.{numbersBytes}
 

@@ -1,5 +1,5 @@
 -- An object that stands in a file is shown by it.
-use mathlib.Core.Bool.{false}
+use mathlib.Core.Bool.{true}
 use mathlib.Core.List.{List}
 use mathlib.Core.Path.{_≡_, refl, _∙_}
 use Prim.Native.Nat.{ℕ, _<_}
@@ -12,12 +12,14 @@ use Rattle.event.specs.Meaning.{Meaning, meaningOf}
 use Rattle.event.specs.declared.Event.the-variants.{Data, String}
 use Rattle.object.specs.Object.{Found, objectAt}
 use Rattle.object.specs.Object as found
-use Rattle.reader.specs.Layout.{entryAt, lookIn, sourceOf}
+use Rattle.layout.specs.Layout.{entryAt, lookIn, lookOf, sourceOf}
+use Rattle.layout.specs.Looked.{scalar}
+use Rattle.layout.specs.FoundLaws.{sound, whole-given}
+use Rattle.layout.specs.LookLaws.{Bytes-right, look-right}
+use Rattle.layout.specs.Bytes.{noBytes, dataAsked, textAsked, eventAsked, isWhole, hasBytes}
+use Rattle.layout.specs.declared.layout.Entry.the-variants.{Of}
+use Rattle.layout.specs.declared.layout.Layout.{Layout}
 use Rattle.reader.specs.Meanings.{bytesAsked, meaningAt}
-use Rattle.reader.specs.FoundLaws.{object-right, plain-denied}
-use Rattle.reader.specs.Request.{dataAsked, textAsked, eventAsked, hasBytes}
-use Rattle.reader.specs.declared.layout.Entry.the-variants.{Of}
-use Rattle.reader.specs.declared.layout.Layout.{Layout}
 use Rattle.written.specs.Encoding.{Object, lone, list, pairs, objectBytes}
 use Rattle.written.specs.EncodingLaws.{head-pos, scalar-pos}
 use Rattle.written_claims.specs.ContainerLaws.{ArrayReads, array-reads, DictionaryReads, dictionary-reads}
@@ -35,17 +37,20 @@ object-pos v w (pairs keys values) h = rw length-append (omega (arith, head-pos 
 
 module _ (file : List ℕ) (l : Layout) (n at : ℕ) (numbered : n < l .count) (entry : entryAt file l n ≡ Of at) where
   scalar-shown : (m : Meaning) → Reads file at m → Looks file (sourceOf file l) n at m
-  unfolding sourceOf lookIn meaningAt meaningOf bytesAsked eventAsked dataAsked textAsked
+  unfolding sourceOf lookIn meaningAt meaningOf bytesAsked eventAsked dataAsked textAsked hasBytes
   scalar-shown m r = go (r .there) (r .is) (r .says)
     where
       go : (x : Found) → ((refs : Width) → objectAt file refs at ≡ x) → Says file x m → Looks file (sourceOf file l) n at m
       go found.outside is says = absurd says
       go (found.refused number values) is says = absurd says
       go (found.scalar e) is says =
-          let h : hasBytes e ≡ false = rw (is One) at (object-right file One at) in
-          record { event = e; look = look-there file l n at numbered entry ∙ rw (is (l .refs)); means = says _; asks = rw (plain-denied file e at h) h }
-      go (found.bytes start k) is says = record { event = Data; look = look-there file l n at numbered entry ∙ rw (is (l .refs)); means = rw (is One) (says .0); asks = rw (is One) (says .1) }
-      go (found.utf8 start k) is says = record { event = String; look = look-there file l n at numbered entry ∙ rw (is (l .refs)); means = rw (is One) (says .0); asks = rw (is One) (says .1) }
+          let h : (found.scalar e ≡ found.scalar e) × (isWhole e ≡ true) = rw (is One) at (sound file One at) in
+          let given : eventAsked file e at ≡ noBytes = whole-given file e at (h .1) (is One) in
+          let look : lookOf file l n ≡ scalar e at = look-there file l n at numbered entry ∙ rw (is (l .refs)) in
+          let right : Bytes-right file e (eventAsked file e at) = rw look at (look-right file l n) in
+          record { event = e; look = look; means = says _; asks = rw given (rw given at right) }
+      go (found.bytes start k) is says = record { event = Data; look = look-there file l n at numbered entry ∙ rw (is (l .refs)); means = rw (is One) (says .0); asks = rw (is One) (refl, says .1) }
+      go (found.utf8 start k) is says = record { event = String; look = look-there file l n at numbered entry ∙ rw (is (l .refs)); means = rw (is One) (says .0); asks = rw (is One) (refl, says .1) }
       go (found.utf16 start k) is says = record { event = String; look = look-there file l n at numbered entry ∙ rw (is (l .refs)); means = rw (is One) (says .0); asks = rw (is One) (refl, says .1) }
       go (found.array k) is says = absurd says
       go (found.dictionary k) is says = absurd says

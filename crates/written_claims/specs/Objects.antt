@@ -8,12 +8,12 @@ use borrow.Author.Tests.{le-ltb}
 use lib.ListN.{length, getD, drop, length-map}
 use Rattle.number.specs.Width.{bytesIn}
 use Rattle.event.specs.Format.{maxOpen}
-use Rattle.reader.specs.Layout.{lookOf, dueOf, sourceOf}
-use Rattle.reader.specs.Machine.{Source, Shape, container}
-use Rattle.reader.specs.Machine as machine
-use Rattle.reader.specs.declared.layout.Due.the-variants.{Member}
-use Rattle.reader.specs.declared.layout.Layout.{Layout}
-use Rattle.reader.specs.declared.state.Frame.{Frame}
+use Rattle.layout.specs.Layout.{lookOf, dueOf, sourceOf}
+use Rattle.layout.specs.Looked.{Source, Shape, container}
+use Rattle.layout.specs.Looked as looked
+use Rattle.layout.specs.declared.layout.Due.the-variants.{Member}
+use Rattle.layout.specs.declared.layout.Layout.{Layout}
+use Rattle.layout.specs.declared.frame.Frame.{Frame}
 use Rattle.written.specs.EmissionLaws.{numbered-written}
 use Rattle.written.specs.File.{refSize, bytesAt, placeOf, tableAt, fileOf}
 use Rattle.written.specs.FirstLaws.{Stands, emission-told}
@@ -77,7 +77,7 @@ module _ (es : List Piece) (g : Sound es) where
   abbrev src : Source
   src = sourceOf file l
 
-  pub look-value : (s : Scalar) → In (val s) (order es) → lookOf file l (number es (val s)) ≡ machine.scalar (eventBy es src s) (placeOf es (val s))
+  pub look-value : (s : Scalar) → In (val s) (order es) → lookOf file l (number es (val s)) ≡ looked.scalar (eventBy es src s) (placeOf es (val s))
   unfolding sourceOf
   look-value s h = look-val es file src (placeOf es) (file-shows es g) s h
 

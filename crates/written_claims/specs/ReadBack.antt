@@ -5,7 +5,7 @@ use Prim.Native.Nat.{ℕ, _+_}
 use lib.ListN.{length, replicate, length-map}
 use Rattle.event.specs.Format.{maxOpen}
 use Rattle.event.specs.Meaning.{Meaning}
-use Rattle.reader.specs.Layout.{sourceOf}
+use Rattle.layout.specs.Layout.{sourceOf}
 use Rattle.reader.specs.Machine.{Said}
 use Rattle.reader.specs.Machine as machine
 use Rattle.reader.specs.Meanings.{ended, answers}

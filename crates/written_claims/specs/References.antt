@@ -4,11 +4,11 @@ use mathlib.Core.List.{List, [], _∷_, _++_}
 use mathlib.Core.Path.{_≡_}
 use Prim.Native.Nat.{ℕ, zero, suc, _+_, _*_}
 use lib.Dec.{eqb}
-use Rattle.reader.specs.Layout.{lookOf, dueOf}
-use Rattle.reader.specs.Machine.{Shape, array, dictionary, Looked, barred, missing, faulty, scalar, container}
-use Rattle.reader.specs.declared.layout.Due.{Due}
-use Rattle.reader.specs.declared.layout.Due.the-variants.{Wrong, Close, Member}
-use Rattle.reader.specs.declared.layout.Layout.{Layout}
+use Rattle.layout.specs.Layout.{lookOf, dueOf}
+use Rattle.layout.specs.Looked.{Shape, array, dictionary, Looked, barred, missing, faulty, scalar, container}
+use Rattle.layout.specs.declared.layout.Due.{Due}
+use Rattle.layout.specs.declared.layout.Due.the-variants.{Wrong, Close, Member}
+use Rattle.layout.specs.declared.layout.Layout.{Layout}
 use Rattle.written.specs.Nub.{has}
 
 -- a reference that is due

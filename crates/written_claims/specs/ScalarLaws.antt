@@ -130,10 +130,10 @@ module _ (file : List ℕ) (at : ℕ) where
       let p : part file (at + length (headBytes 0x50 n)) n ≡ s = stands-part file _ s (d .body) in
       record { there = found.utf8 (at + length (headBytes 0x50 n)) n; is = λ refs. d .decides refs ∙ rw (k, d .content, p, g); says = (ap text p, ap length p) }
 
-  wide-text-reads : (s : List ℕ) → isUtf8 s ≡ true → isAscii s ≡ false → (n : ℕ) → length (toUtf16 s) ≡ n * 2 → n < 2 ^ 64
+  utf16-text-reads : (s : List ℕ) → isUtf8 s ≡ true → isAscii s ≡ false → (n : ℕ) → length (toUtf16 s) ≡ n * 2 → n < 2 ^ 64
       → Whole file at (headBytes 0x60 n ++ toUtf16 s) → Reads file at (text s)
   unfolding byKind utf16In
-  wide-text-reads s g o n l small wh =
+  utf16-text-reads s g o n l small wh =
       let d = headed file at 0x60 n 2 (toUtf16 s) small (omega arith) wh in
       let k : kindOf (0x60 + nibbleOf n) ≡ kind.Utf16 (nibbleOf n) = kind-nibble 0x60 kind.Utf16 kind-utf16 n in
       let p : part file (at + length (headBytes 0x60 n)) (n * 2) ≡ toUtf16 s = rw l at (stands-part file _ (toUtf16 s) (d .body)) in
@@ -148,7 +148,7 @@ module _ (file : List ℕ) (at : ℕ) where
       go false e =
           let n = length (utf16 (scalars8 s)) in
           let c = counted s g in
-          wide-text-reads s g e n (length-utf16 s) (omega arith) (rw e at wh)
+          utf16-text-reads s g e n (length-utf16 s) (omega arith) (rw e at wh)
 
 -- a scalar whose bytes stand at an offset and end at or before T is read there
 pub scalar-reads : (file : List ℕ) (at : ℕ) (m : Meaning) → IsScalar m → OnTape m → Whole file at (scalarBytes m) → Reads file at m

@@ -9,7 +9,7 @@ use borrow.Author.Tests.{eqb-true, eqb-false, eq-eqb, ne-eqb, ltb-true, ltb-fals
 use lib.Dec.{ltb, eqb}
 use lib.ListN.{length, getD, drop}
 use Rattle.event.specs.Format.{maxOpen}
-use Rattle.reader.specs.declared.layout.Layout.{Layout}
+use Rattle.layout.specs.declared.layout.Layout.{Layout}
 use Rattle.written.specs.CountLaws.{times, times-in, times-out, times-distinct}
 use Rattle.written.specs.File.{fileOf}
 use Rattle.written.specs.FirstLaws.{sumOf}

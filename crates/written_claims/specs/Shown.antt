@@ -1,5 +1,5 @@
 -- What a source of answers is to say of an object.
-use mathlib.Core.Bool.{false}
+use mathlib.Core.Bool.{true, false}
 use mathlib.Core.List.{List, _++_}
 use mathlib.Core.Path.{_≡_}
 use Prim.Native.Nat.{ℕ, _+_, _*_, _^_, _<_}
@@ -10,11 +10,11 @@ use Rattle.event.specs.Meaning.{Meaning}
 use Rattle.event.specs.declared.Event.{Event}
 use Rattle.event.specs.declared.Event.the-variants.{String}
 use Rattle.object.specs.Content.{part}
-use Rattle.reader.specs.Machine.{Source, scalar, container, array, dictionary}
+use Rattle.layout.specs.Looked.{Source, scalar, container, array, dictionary}
+use Rattle.layout.specs.Bytes.{Asked, inFile, inUtf16, noBytes, denied, eventAsked, hasBytes}
+use Rattle.layout.specs.declared.layout.Due.the-variants.{Close, Member}
+use Rattle.layout.specs.declared.frame.Frame.{Frame}
 use Rattle.reader.specs.Meanings.{meaningAt}
-use Rattle.reader.specs.Request.{Asked, inFile, wide, denied, eventAsked, hasBytes}
-use Rattle.reader.specs.declared.layout.Due.the-variants.{Close, Member}
-use Rattle.reader.specs.declared.state.Frame.{Frame}
 use Rattle.tape.specs.Code.{OnTape}
 use Rattle.written.specs.Encoding.{Object, lone, list, pairs}
 use Rattle.written.specs.Scalar.{IsScalar}
@@ -33,9 +33,10 @@ pub record At (f : Frame) (n length position : ℕ) : Type 0 where
 
 -- where the bytes of an event stand: in the file, whole; as UTF-16, if it is a text that isn't ASCII; nowhere, if it has none
 abbrev pub Asks : List ℕ → Event → Asked → Type 0
-Asks file e (inFile start n) = length (part file start n) ≡ n
-Asks file e (wide start n) = (e ≡ String) × (isAscii (toUtf8 (part file start n)) ≡ false)
-Asks file e (denied number values) = hasBytes e ≡ false
+Asks file e (inFile start n) = (hasBytes e ≡ true) × (length (part file start n) ≡ n)
+Asks file e (inUtf16 start n) = (e ≡ String) × (isAscii (toUtf8 (part file start n)) ≡ false)
+Asks file e noBytes = hasBytes e ≡ false
+Asks file e (denied number values) = ⊥
 
 -- a scalar is looked up as an event that means it
 pub record Looks (file : List ℕ) (src : Source) (n at : ℕ) (m : Meaning) : Type 0 where

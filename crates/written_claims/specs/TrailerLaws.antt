@@ -12,8 +12,8 @@ use Rattle.number.specs.Width.{bytesIn}
 use Rattle.number.specs.WidthLaws.{allowed}
 use Rattle.object.specs.Content.{part, trailerAt}
 use Rattle.event.specs.Format.{magic}
-use Rattle.reader.specs.Trailer.{lays, begins, eightAt, tableOf, refSizeOf, sizesOf, trailerOf}
-use Rattle.reader.specs.declared.layout.Layout.{Layout}
+use Rattle.layout.specs.Trailer.{lays, begins, eightAt, tableOf, refSizeOf, sizesOf, trailerOf}
+use Rattle.layout.specs.declared.layout.Layout.{Layout}
 use Rattle.written_claims.specs.Stands.{Stands, stands-front, stands-back, stands-byte, stands-inside, stands-number}
 use Rattle.written.specs.Encoding.{trailerBytes}
 use Rattle.written.specs.FileLaws.{length-trailer}

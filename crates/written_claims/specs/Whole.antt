@@ -11,16 +11,17 @@ use lib.Seq.{sets, length-sets}
 use Rattle.unicode.proofs.Writing.{sets-append}
 use Rattle.event.specs.Meaning.{Meaning, meaningOf}
 use Rattle.event.specs.declared.Event.{Event}
-use Rattle.reader.specs.Machine.{Said, event}
+use Rattle.layout.specs.Bytes.{hasBytes, eventAsked}
+use Rattle.reader.specs.Machine.{Said, recordOf, eventAt}
 use Rattle.reader.specs.Machine as machine
 use Rattle.reader.specs.Meanings.{bytesAsked, meaningAt}
 use Rattle.reader.specs.Next.{nextOf}
-use Rattle.reader.specs.Request.{hasBytes, eventAsked, askedOf, scratchAfter}
+use Rattle.reader.specs.Request.{askedOf, scratchAfter}
 use Rattle.reader.specs.declared.state.Reader.{Reader}
 use Rattle.tape.specs.Append.{appendOf, appendTo, putOf, putTo, fits}
 use Rattle.tape.specs.Code.{bytesFor, allowed}
 use Rattle.tape.specs.Events.{tapeOf}
-use Rattle.transcribe.specs.Asking.{plain-means}
+use Rattle.transcribe.specs.HandedLaws.{plain-means}
 use Rattle.transcribe.specs.Note.{kept, noting, putNote, textNote, noteOf, fromTape}
 use Rattle.transcribe.specs.Run.{run, ended, byNoted, byNote, bySaid, runOf}
 use Rattle.transcribe.specs.TranscriptLaws.{Put, meaningsOf}
@@ -36,19 +37,19 @@ AllWithin room (p ∷ ps) = (scratchFor (p .meaning) ≤ room) × (allowed (p .m
 module _ (file : List ℕ) where
   -- an event that is handed out is appended by its meaning
   noted : (p : Put) (x : Said) (h : HandsOut file p x) (scratch tape : List ℕ) (held : ℕ) → scratchFor (p .meaning) ≤ length scratch
-      → (s : List ℕ) × (length s ≡ length scratch) × (noteOf file scratch tape held (record { event = h .e; offset = p .offset }) ≡ putNote s tape held (p .meaning))
+      → (s : List ℕ) × (length s ≡ length scratch) × (noteOf file scratch tape held (recordOf (h .e) (p .offset)) ≡ putNote s tape held (p .meaning))
   unfolding noteOf textNote meaningAt
   noted p x h scratch tape held room = go (hasBytes (h .e)) refl
     where
       asked : List ℕ
       asked = bytesAsked file (eventAsked file (h .e) (p .offset))
 
-      go : (b : Bool) → hasBytes (h .e) ≡ b → (s : List ℕ) × (length s ≡ length scratch) × (noteOf file scratch tape held (record { event = h .e; offset = p .offset }) ≡ putNote s tape held (p .meaning))
+      go : (b : Bool) → hasBytes (h .e) ≡ b → (s : List ℕ) × (length s ≡ length scratch) × (noteOf file scratch tape held (recordOf (h .e) (p .offset)) ≡ putNote s tape held (p .meaning))
       go false f = (scratch, refl, rw f (ap (putNote scratch tape held) (sym (plain-means (h .e) asked f .0) ∙ h .means)))
       go true f =
-          let k = h .gives f scratch room in
+          let k = h .gives scratch room in
           let c : contentOf (p .meaning) ≡ asked = ap contentOf (sym (h .means)) ∙ content-is (h .e) asked f in
-          let after : List ℕ = scratchAfter file scratch (askedOf file (record { event = h .e; offset = p .offset })) in
+          let after : List ℕ = scratchAfter file scratch (askedOf file (recordOf (h .e) (p .offset))) in
           (after, k .scratch-is, rw (f, k .first, textNote, k .second) (ap (putNote after tape held) (ap (meaningOf (h .e)) c ∙ h .means)))
 
   put-note : (s tape : List ℕ) (held : ℕ) (m : Meaning) → allowed m ≡ true → held + length (bytesFor m) ≤ length tape
@@ -56,8 +57,8 @@ module _ (file : List ℕ) where
   unfolding putNote fromTape appendOf appendTo putOf putTo fits
   put-note s tape held m t room = rw (t, le-leb (held + length (bytesFor m)) (length tape) room)
 
-  run-step : (n : ℕ) (scratch tape : List ℕ) (held : ℕ) (r : Reader) (e : Event) (at k : ℕ) (t s : List ℕ) → nextOf file r .answer ≡ event e at
-      → noteOf file scratch tape held (record { event = e; offset = at }) ≡ noting (kept k) t s → runOf (suc n) file scratch tape held r ≡ runOf n file s t k (nextOf file r .state)
+  run-step : (n : ℕ) (scratch tape : List ℕ) (held : ℕ) (r : Reader) (e : Event) (at k : ℕ) (t s : List ℕ) → nextOf file r .answer ≡ eventAt e at
+      → noteOf file scratch tape held (recordOf e at) ≡ noting (kept k) t s → runOf (suc n) file scratch tape held r ≡ runOf n file s t k (nextOf file r .state)
   unfolding runOf bySaid byNote byNoted
   run-step n scratch tape held r e at k t s a q = rw (a, bySaid, q)
 
@@ -79,7 +80,7 @@ module _ (file : List ℕ) where
       let s = bytesFor m in
       let t = tapeOf (meaningsOf ps) in
       let l : length (s ++ t) ≡ length s + length t = length-append s t in
-      let a : nextOf file r .answer ≡ event (h .0 .e) (p .offset) = head-eq-of-cons-eq e ∙ h .0 .is in
+      let a : nextOf file r .answer ≡ eventAt (h .0 .e) (p .offset) = head-eq-of-cons-eq e ∙ h .0 .is in
       let k = noted p x (h .0) scratch tape held (w .0) in
       let q = put-note (k .0) tape held m (w .1) (omega arith) in
       let ih = run-handed ps xs n (k .0) (sets tape held s) (held + length s) (nextOf file r .state) (h .1) (tail-eq-of-cons-eq e) (omega arith) (rw (k .1) (w .2)) (rw length-sets (omega arith)) in

@@ -1,9 +1,9 @@
 -- `transcribe` is the definition's run: the trailer first, then the walk from the root.
 use mathlib.Core.Path.{sym, ap, _∙_}
 use borrow.Author.Needs.{needs}
-use Rattle.reader.specs.Said.{trailerSaid}
+use Rattle.layout.specs.Said.{trailerSaid}
 use Rattle.transcribe.specs.Said.{endSaid}
-use Rattle.reader.proofs.Short.{laid-short}
+use Rattle.layout.proofs.Short.{laid-short}
 use Rattle.transcribe.proofs.Calls.{begins-none, begins-keeps, begins-ends, begins-lays}
 use Rattle.transcribe.proofs.transcribe.Statement.{statement}
 use Rattle.transcribe.proofs.transcribe.Tie as tie

@@ -1,11 +1,10 @@
 -- `put_refusal` writes the line where it was measured to fit, and nothing where not.
 
-use Rattle.line.specs.Line.{refusalLine, plus, word-at}
+use Rattle.line.specs.Line.{refusalLine, plus, word-at, tail}
 use mathlib.Core.List.{[]}
 use mathlib.Core.Path.{_≡_, refl, sym, _∙_}
 use native.Mathlib.Omega.{arith}
 use lib.ListN.{length}
-use Rattle.line.specs.Line.{refusalLine, plus, word-at, tail}
 use Rattle.line.specs.LineLaws.{length-row, length-refusal}
 use Rattle.line.specs.Piece.{numeralOf, spaceOf}
 use Rattle.line.specs.PutLaws.{put-whole, put-none}

@@ -1,8 +1,8 @@
 -- `data_at` takes data alone.
 use mathlib.Core.Path.{sym, ap, _∙_}
 use Rattle.object.specs.Found.{foundOf}
-use Rattle.reader.specs.Request.{dataAsked}
-use Rattle.reader.specs.Said.{askedSaid, numberOf, valuesOf}
+use Rattle.layout.specs.Bytes.{dataAsked}
+use Rattle.layout.specs.Said.{askedSaid, numberOf, valuesOf}
 use borrow.Author.Needs.{needs}
 use Rattle.reader.proofs.request.data_at.Statement.{statement}
 use Rattle.reader.proofs.request.data_at.Tie as tie

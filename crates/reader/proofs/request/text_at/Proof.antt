@@ -1,8 +1,8 @@
 -- `text_at` takes text alone.
 use mathlib.Core.Path.{sym, ap, _∙_}
 use Rattle.object.specs.Found.{foundOf}
-use Rattle.reader.specs.Request.{textAsked}
-use Rattle.reader.specs.Said.{askedSaid, numberOf, valuesOf}
+use Rattle.layout.specs.Bytes.{textAsked}
+use Rattle.layout.specs.Said.{askedSaid, numberOf, valuesOf}
 use borrow.Author.Needs.{needs}
 use Rattle.reader.proofs.request.text_at.Statement.{statement}
 use Rattle.reader.proofs.request.text_at.Tie as tie

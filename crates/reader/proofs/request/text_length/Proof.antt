@@ -2,10 +2,11 @@
 use mathlib.Core.Path.{sym, ap, _∙_}
 use native.Mathlib.Omega.{arith}
 use lib.ListN.{length}
+use Rattle.layout.specs.Said.{askedSaid, numberOf, valuesOf}
 use Rattle.reader.specs.Request.{lengthSaid, scratchAfter}
-use Rattle.reader.specs.Said.{askedSaid, textSaid, numberOf, valuesOf}
+use Rattle.reader.specs.Said.{textSaid}
 use Rattle.reader.proofs.Inside.{asked-in}
-use Rattle.reader.proofs.Wide.{is-written, no-room, is-text, filled}
+use Rattle.reader.proofs.Utf16.{is-written, no-room, is-text, filled}
 use borrow.Author.Needs.{needs}
 use Rattle.reader.proofs.request.text_length.Statement.{statement}
 use Rattle.reader.proofs.request.text_length.Tie as tie
@@ -50,6 +51,9 @@ enum-told c = search needs
 
 enum-told-2 : tie.Need-enum-told-2
 enum-told-2 c = search needs
+
+enum-told-3 : tie.Need-enum-told-3
+enum-told-3 c = search needs
 
 enum-known-refusal : tie.Need-enum-known-refusal
 enum-known-refusal c = search needs
@@ -106,6 +110,12 @@ returns-4 c =
 returns-5 : tie.Need-returns-5
 unfolding lengthSaid scratchAfter askedSaid textSaid
 returns-5 c =
+    let e = sym (c .before .before .asked-for .ensures) ∙ ap askedSaid (c .enum-told3 .given .1) in
+    (rw e, rw e)
+
+returns-6 : tie.Need-returns-6
+unfolding lengthSaid scratchAfter askedSaid textSaid
+returns-6 c =
     let e = sym (c .before .before .before .asked-for .ensures) ∙ ap askedSaid (c .before .refusal .given .1) in
     (rw e, rw e)
 
@@ -124,6 +134,7 @@ text-length-spec =
     enum-known-bytes
     enum-told
     enum-told-2
+    enum-told-3
     enum-known-refusal
     returns
     same-length
@@ -132,4 +143,5 @@ text-length-spec =
     returns-3
     same-length-3
     returns-4
-    returns-5)
+    returns-5
+    returns-6)

@@ -4,10 +4,10 @@ use mathlib.Core.Path.{_≡_, sym, ap, _∙_}
 use native.Mathlib.Omega.{arith}
 use lib.ListN.{length}
 use lib.Seq.{length-take-le}
+use Rattle.layout.specs.Said.{askedSaid}
 use Rattle.reader.specs.Request.{partSaid}
-use Rattle.reader.specs.Said.{askedSaid}
 use Rattle.reader.proofs.Inside.{asked-in}
-use Rattle.reader.proofs.Wide.{is-measured, part-none, part-some}
+use Rattle.reader.proofs.Utf16.{is-measured, part-none, part-some}
 use borrow.Author.Needs.{needs}
 use Rattle.reader.proofs.request.text_part.Statement.{statement}
 use Rattle.reader.proofs.request.text_part.Tie as tie
@@ -106,6 +106,12 @@ enum-told-2 c = search needs
 slice-aggregate-result-4 : tie.Need-slice-aggregate-result-4
 slice-aggregate-result-4 c = search needs
 
+enum-told-3 : tie.Need-enum-told-3
+enum-told-3 c = search needs
+
+slice-aggregate-result-5 : tie.Need-slice-aggregate-result-5
+slice-aggregate-result-5 c = search needs
+
 returns-3 : tie.Need-returns-3
 unfolding askedSaid partSaid
 returns-3 c =
@@ -126,6 +132,10 @@ returns-4 c =
 returns-5 : tie.Need-returns-5
 unfolding askedSaid partSaid
 returns-5 c = rw (sym (c .before .before .before .asked-for .ensures) ∙ ap askedSaid (c .before .enum-told2 .given .1))
+
+returns-6 : tie.Need-returns-6
+unfolding askedSaid partSaid
+returns-6 c = rw (sym (c .before .before .before .asked-for .ensures) ∙ ap askedSaid (c .before .enum-told3 .given .1))
 
 pub text-part-spec : {M : Type 1} → statement M
 text-part-spec =
@@ -152,6 +162,9 @@ text-part-spec =
     slice-aggregate-result-3
     enum-told-2
     slice-aggregate-result-4
+    enum-told-3
+    slice-aggregate-result-5
     returns-3
     returns-4
-    returns-5)
+    returns-5
+    returns-6)

@@ -11,10 +11,10 @@ use Rattle.reader.proofs.state.is_open.Statement.{statement}
 use Rattle.reader.proofs.state.is_open.Tie as tie
 
 abbrev Inv-loop : tie.InvT-loop
-Inv-loop held object frames i₀ i = (i ≤ maxOpen) × (memberOf (take held frames) object ≡ memberOf (drop i (take held frames)) object)
+Inv-loop depth object frames i₀ i = (i ≤ maxOpen) × (memberOf (take depth frames) object ≡ memberOf (drop i (take depth frames)) object)
 
 abbrev μ-loop : tie.MeasureT-loop
-μ-loop held object frames i₀ i = maxOpen - i
+μ-loop depth object frames i₀ i = maxOpen - i
 
 loop-holds : tie.Need-loop-holds Inv-loop μ-loop
 loop-holds c = search needs
@@ -23,7 +23,7 @@ returns : tie.Need-returns Inv-loop μ-loop
 returns c =
     let a = c .before .before .before .args in
     let l = c .before .before .loop in
-    rw (l .inv .1, left-none (a .t1) (a .held) (a .object) (l .i) (omega (arith, taken (a .t1) (a .held) (a .object))))
+    rw (l .inv .1, left-none (a .t1) (a .depth) (a .object) (l .i) (omega (arith, taken (a .t1) (a .depth) (a .object))))
 
 mul-if2 : tie.Need-mul-if2 Inv-loop μ-loop
 mul-if2 c = search needs
@@ -36,7 +36,7 @@ returns-2 c =
     let a = c .before .before .before .before .args in
     let l = c .before .before .before .loop in
     let k : length (a .t1) ≡ maxOpen = search (needs, unmapped) in
-    rw (l .inv .1, left-at (a .t1) (a .held) (a .object) (l .i) (c .before .if1 .left) (omega arith), eq-eqb _ _ (c .if2 .taken))
+    rw (l .inv .1, left-at (a .t1) (a .depth) (a .object) (l .i) (c .before .if1 .left) (omega arith), eq-eqb _ _ (c .if2 .taken))
 
 add-i : tie.Need-add-i Inv-loop μ-loop
 add-i c = search needs
@@ -49,14 +49,14 @@ loop-again c =
     let a = c .before .before .before .before .args in
     let l = c .before .before .before .loop in
     let k : length (a .t1) ≡ maxOpen = search (needs, unmapped) in
-    (search needs, rw (l .inv .1, left-at (a .t1) (a .held) (a .object) (l .i) (c .before .if1 .left) (omega arith), ne-eqb _ _ (c .if2 .left)))
+    (search needs, rw (l .inv .1, left-at (a .t1) (a .depth) (a .object) (l .i) (c .before .if1 .left) (omega arith), ne-eqb _ _ (c .if2 .left)))
 
 returns-3 : tie.Need-returns-3 Inv-loop μ-loop
 returns-3 c =
     let a = c .before .before .args in
     let l = c .before .loop in
     let k : length (a .t1) ≡ maxOpen = search (needs, unmapped) in
-    rw (l .inv .1, left-none (a .t1) (a .held) (a .object) (l .i) (omega (arith, all (a .t1) (a .held) (a .object))))
+    rw (l .inv .1, left-none (a .t1) (a .depth) (a .object) (l .i) (omega (arith, all (a .t1) (a .depth) (a .object))))
 
 pub is-open-spec : {M : Type 1} → statement M
 is-open-spec =

@@ -1,14 +1,27 @@
 -- `at_root` looks the root up: nothing is open yet.
-use mathlib.Core.Path.{sym, ap, _∙_}
+use mathlib.Core.Path.{_≡_, sym, ap, _∙_}
 use native.Mathlib.Omega.{arith}
 use borrow.Author.Needs.{needs}
+use Rattle.layout.specs.Layout.{lookOf}
+use Rattle.layout.specs.LookLaws.{look-right, placed-scalar, placed-container}
+use Rattle.layout.specs.Looked.{container}
+use Rattle.layout.specs.Said.{lookSaid, shapeSaid}
+use Rattle.layout.proofs.Counts.{numbered, measured}
 use Rattle.reader.specs.Machine.{enter, arrive}
 use Rattle.reader.specs.Next.{laidOut}
-use Rattle.reader.specs.Said.{stepSaid, lookSaid, numberOf, valuesOf}
+use Rattle.reader.specs.NextLaws.{arrive-refused}
+use Rattle.reader.specs.Said.{stepSaid}
 use Rattle.reader.specs.State.{openOf, memberOf, advanced, passed, entered}
-use Rattle.reader.proofs.Counts.{numbered, measured}
 use Rattle.reader.proofs.step.at_root.Statement.{statement}
 use Rattle.reader.proofs.step.at_root.Tie as tie
+
+-- the root is a container
+found-container : (c : tie.After-shape) → lookOf (c .before .before .before .before .before .args .file .now) (c .before .before .before .before .before .args .layout) (c .before .before .before .before .before .args .root) ≡ container (shapeSaid (c .shape .given .0 .0)) (c .shape .given .0 .1 .0) (c .shape .given .0 .1 .1 .0)
+unfolding lookSaid
+found-container c = placed-container _ _ _ _ _ (sym (c .before .before .look-up .ensures .0) ∙ ap lookSaid (c .shape .given .1))
+
+cast-look-up : tie.Need-cast-look-up
+cast-look-up c = search needs
 
 look-up-requires : tie.Need-look-up-requires
 look-up-requires c κs = search needs
@@ -16,26 +29,11 @@ look-up-requires c κs = search needs
 enum-known-refusal : tie.Need-enum-known-refusal
 enum-known-refusal c = search needs
 
-cast-ended : tie.Need-cast-ended
-cast-ended c = search needs
-
-ended-requires : tie.Need-ended-requires
-ended-requires c κs = search needs
-
-enum-told : tie.Need-enum-told
-enum-told c = search needs
-
 laid-out-requires : tie.Need-laid-out-requires
 laid-out-requires c κs = search needs
 
-kept-requires : tie.Need-kept-requires
-kept-requires c κs = search needs
-
-enum-known-refusal-2 : tie.Need-enum-known-refusal-2
-enum-known-refusal-2 c = search needs
-
-ended-requires-2 : tie.Need-ended-requires-2
-ended-requires-2 c κs = search needs
+refused-requires : tie.Need-refused-requires
+refused-requires c κs = search needs
 
 enum-known-event : tie.Need-enum-known-event
 enum-known-event c = search needs
@@ -49,17 +47,15 @@ enum-known-shape c = search needs
 laid-out-requires-2 : tie.Need-laid-out-requires-2
 laid-out-requires-2 c κs = search needs
 
-cast-t23 : tie.Need-cast-t23
-unfolding lookSaid
-cast-t23 c =
-    let a = c .before .before .before .before .before .before .args in
-    omega (arith, numbered (a .file .now) (a .layout) (a .root) _ _ _ (sym (c .before .before .before .before .look-up .ensures .0) ∙ ap lookSaid (c .before .before .shape .given .1)))
+cast-t21 : tie.Need-cast-t21
+cast-t21 c =
+    let a = c .before .before .before .before .before .before .before .args in
+    omega (arith, numbered (a .file .now) (a .layout) (a .root) _ _ _ (found-container (c .before .before)))
 
-cast-t24 : tie.Need-cast-t24
-unfolding lookSaid
-cast-t24 c =
-    let a = c .before .before .before .before .before .before .args in
-    omega (arith, measured (a .file .now) (a .layout) (a .root) _ _ _ (sym (c .before .before .before .before .look-up .ensures .0) ∙ ap lookSaid (c .before .before .shape .given .1)))
+cast-t22 : tie.Need-cast-t22
+cast-t22 c =
+    let a = c .before .before .before .before .before .before .before .args in
+    omega (arith, measured (a .file .now) (a .layout) (a .root) _ _ _ (found-container (c .before .before)))
 
 element-set-from-reader : tie.Need-element-set-from-reader
 element-set-from-reader c = search needs
@@ -71,49 +67,38 @@ handed-requires-2 : tie.Need-handed-requires-2
 handed-requires-2 c κs = search needs
 
 returns : tie.Need-returns
-unfolding arrive lookSaid laidOut
-returns c = rw (sym (c .before .before .before .before .before .look-up .ensures .0) ∙ ap lookSaid (c .before .before .before .refusal .given .1)) (c .ended .ensures)
+unfolding lookSaid laidOut
+returns c =
+    let a = c .before .before .before .before .before .before .before .before .args in
+    rw (c .before .laid-out .ensures) at (c .refused .ensures) ∙
+    sym (arrive-refused (a .file .now) (a .layout) (laidOut (a .file .now) (a .layout)) (a .root) _ _ _ _ (look-right (a .file .now) (a .layout) (a .root)) (sym (c .before .before .before .before .before .look-up .ensures .0) ∙ ap lookSaid (c .before .before .before .refusal .given .1)))
 
 returns-2 : tie.Need-returns-2
-unfolding arrive lookSaid numberOf valuesOf
-returns-2 c = rw (sym (c .before .before .before .before .look-up .ensures .0) ∙ ap lookSaid (c .before .before .enum-told .given .1), ← c .before .laid-out .ensures) (c .kept .ensures)
+unfolding arrive lookSaid stepSaid laidOut passed
+returns-2 c = rw (placed-scalar _ _ _ _ (sym (c .before .before .before .before .look-up .ensures .0) ∙ ap lookSaid (c .before .before .event .given .1)), c .handed .ensures)
 
 returns-3 : tie.Need-returns-3
-unfolding arrive lookSaid
-returns-3 c = rw (sym (c .before .before .before .before .look-up .ensures .0) ∙ ap lookSaid (c .before .before .refusal2 .given .1)) (c .ended2 .ensures)
-
-returns-4 : tie.Need-returns-4
-unfolding arrive lookSaid stepSaid laidOut passed
-returns-4 c = rw (sym (c .before .before .before .before .look-up .ensures .0) ∙ ap lookSaid (c .before .before .event .given .1), c .handed .ensures)
-
-returns-5 : tie.Need-returns-5
-unfolding arrive lookSaid stepSaid laidOut enter openOf memberOf advanced entered
-returns-5 c = rw (sym (c .before .before .before .before .before .before .look-up .ensures .0) ∙ ap lookSaid (c .before .before .before .before .shape .given .1), c .before .before .laid-out2 .ensures, c .handed2 .ensures, c .before .start-of .ensures)
+unfolding arrive stepSaid laidOut enter openOf memberOf advanced entered
+returns-3 c = rw (found-container (c .before .before .before .before), c .before .before .laid-out2 .ensures, c .handed2 .ensures, c .before .start-of .ensures)
 
 pub at-root-spec : {M : Type 1} → statement M
 at-root-spec =
     tie.close
     (tie.spec
+    cast-look-up
     look-up-requires
     enum-known-refusal
-    cast-ended
-    ended-requires
-    enum-told
     laid-out-requires
-    kept-requires
-    enum-known-refusal-2
-    ended-requires-2
+    refused-requires
     enum-known-event
     handed-requires
     enum-known-shape
     laid-out-requires-2
-    cast-t23
-    cast-t24
+    cast-t21
+    cast-t22
     element-set-from-reader
     start-of-requires
     handed-requires-2
     returns
     returns-2
-    returns-3
-    returns-4
-    returns-5)
+    returns-3)

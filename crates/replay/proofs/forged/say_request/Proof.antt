@@ -11,20 +11,26 @@ after-requires c κs = search needs
 after-requires-2 : tie.Need-after-requires-2
 after-requires-2 c κs = search needs
 
+after-requires-3 : tie.Need-after-requires-3
+after-requires-3 c κs = search needs
+
 number-requires : tie.Need-number-requires
 number-requires c κs = search needs
-
-event-of-requires : tie.Need-event-of-requires
-event-of-requires c κs = search needs
 
 number-requires-2 : tie.Need-number-requires-2
 number-requires-2 c κs = search needs
 
-blank-requires : tie.Need-blank-requires
-blank-requires c κs = search needs
+event-of-requires : tie.Need-event-of-requires
+event-of-requires c κs = search needs
 
 number-requires-3 : tie.Need-number-requires-3
 number-requires-3 c κs = search needs
+
+blank-requires : tie.Need-blank-requires
+blank-requires c κs = search needs
+
+number-requires-4 : tie.Need-number-requires-4
+number-requires-4 c κs = search needs
 
 least-requires : tie.Need-least-requires
 least-requires c κs = search needs
@@ -53,11 +59,13 @@ say-request-spec =
     (tie.spec
     after-requires
     after-requires-2
+    after-requires-3
     number-requires
-    event-of-requires
     number-requires-2
-    blank-requires
+    event-of-requires
     number-requires-3
+    blank-requires
+    number-requires-4
     least-requires
     slice-relend-prefix-ask
     slice-aggregate-ask

@@ -4,11 +4,12 @@ use Prim.Native.Nat.{_-_, _≤_}
 use native.Mathlib.Omega.{arith}
 use borrow.Author.Needs.{needs}
 use lib.ListN.{length}
+use Rattle.event.specs.Format.{maxOpen}
 use Rattle.replay.proofs.forged.shown_frames.Statement.{statement}
 use Rattle.replay.proofs.forged.shown_frames.Tie as tie
 
 abbrev Inv-loop : tie.InvT-loop
-Inv-loop reader n₀ n = n ≤ 64
+Inv-loop reader n₀ n = n ≤ maxOpen
 
 abbrev μ-loop : tie.MeasureT-loop
 μ-loop reader n₀ n = n

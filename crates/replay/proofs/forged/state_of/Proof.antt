@@ -3,14 +3,15 @@ use mathlib.Core.Path.{_≡_}
 use Prim.Native.Nat.{_-_, _≤_}
 use native.Mathlib.Omega.{arith}
 use borrow.Author.Needs.{needs}
+use Rattle.event.specs.Format.{maxOpen}
 use Rattle.replay.proofs.forged.state_of.Statement.{statement}
 use Rattle.replay.proofs.forged.state_of.Tie as tie
 
 abbrev Inv-loop : tie.InvT-loop
-Inv-loop s fresh length offsets refs count table place held reader₀ at₀ i₀ reader at i = 0 ≤ i
+Inv-loop s fresh length offsets refs count table place depth reader₀ at₀ i₀ reader at i = 0 ≤ i
 
 abbrev μ-loop : tie.MeasureT-loop
-μ-loop s fresh length offsets refs count table place held reader₀ at₀ i₀ reader at i = 64 - i
+μ-loop s fresh length offsets refs count table place depth reader₀ at₀ i₀ reader at i = maxOpen - i
 
 after-requires : tie.Need-after-requires Inv-loop μ-loop
 after-requires c κs = search needs

@@ -47,8 +47,8 @@ same-length-4 c = search needs
 returns-2 : tie.Need-returns-2 Inv-loop μ-loop
 returns-2 c = search needs
 
-say-event-requires : tie.Need-say-event-requires Inv-loop μ-loop
-say-event-requires c κs = search needs
+say-filled-requires : tie.Need-say-filled-requires Inv-loop μ-loop
+say-filled-requires c κs = search needs
 
 sub-left : tie.Need-sub-left Inv-loop μ-loop
 sub-left c = search needs
@@ -89,7 +89,7 @@ list-spec =
     same-length-3
     same-length-4
     returns-2
-    say-event-requires
+    say-filled-requires
     sub-left
     loop-less
     loop-again

@@ -1,4 +1,4 @@
--- `append`: text is checked first; what is put is stepped to again, since the event is in range.
+-- `append`: text is checked first; what is appended is stepped to again, since the event is in range.
 use mathlib.Core.Path.{sym, _∙_}
 use borrow.Author.Needs.{needs}
 use borrow.Author.Tests.{not-true, not-false}
@@ -25,8 +25,8 @@ returns c =
     let u = not-true _ (sym (c .before .is-bad-text .ensures) ∙ c .if1 .taken) in
     put-reads _ _ _ (range (c .before .before)) (put-bad _ _ _ u)
 
-put-requires : tie.Need-put-requires
-put-requires c κs = search needs
+append-unchecked-requires : tie.Need-append-unchecked-requires
+append-unchecked-requires c κs = search needs
 
 same-length : tie.Need-same-length
 same-length c = search needs
@@ -34,7 +34,7 @@ same-length c = search needs
 returns-2 : tie.Need-returns-2
 returns-2 c =
     let u = not-false _ (sym (c .before .before .before .before .before .is-bad-text .ensures) ∙ c .before .before .before .before .if1 .left) in
-    put-reads _ _ _ (range (c .before .before .before .before .before .before)) (put-event _ _ _ u (c .before .before .put .ensures))
+    put-reads _ _ _ (range (c .before .before .before .before .before .before)) (put-event _ _ _ u (c .before .before .append-unchecked .ensures))
 
 pub append-spec : {M : Type 1} → statement M
-append-spec = tie.close (tie.spec is-bad-text-requires returns put-requires same-length returns-2)
+append-spec = tie.close (tie.spec is-bad-text-requires returns append-unchecked-requires same-length returns-2)

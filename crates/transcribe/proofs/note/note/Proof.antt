@@ -3,10 +3,10 @@ use mathlib.Core.Path.{sym, ap, _∙_}
 use native.Mathlib.Omega.{arith}
 use lib.Seq.{length-take-le}
 use Rattle.number.specs.BeLaws.{bytes-of}
-use Rattle.reader.specs.Said.{numberOf, valuesOf}
+use Rattle.layout.specs.Said.{numberOf, valuesOf}
 use Rattle.transcribe.specs.Note.{fromTape}
 use Rattle.transcribe.specs.Said.{noteSaid, failSaid}
-use Rattle.transcribe.proofs.Noting.{is-plain, plain-noted, file-end, file-noted, wide-end, never-bad, long-noted, text-fits, wide-noted}
+use Rattle.transcribe.proofs.Noting.{never-denied, is-plain, plain-noted, file-end, file-noted, utf16-end, never-bad, long-noted, text-fits, utf16-noted}
 use borrow.Author.Needs.{needs}
 use Rattle.transcribe.proofs.note.note.Statement.{statement}
 use Rattle.transcribe.proofs.note.note.Tie as tie
@@ -23,17 +23,17 @@ enum-known-bytes c = search needs
 add-end : tie.Need-add-end
 add-end c = omega (arith, file-end (c .before .before .before .before .before .before .before .pre) (c .before .before .bytes .given .1))
 
-sub-put : tie.Need-sub-put
-sub-put c = search needs
+sub-append-unchecked : tie.Need-sub-append-unchecked
+sub-append-unchecked c = search needs
 
-part-put-start : tie.Need-part-put-start
-part-put-start c = search needs
+part-append-unchecked-start : tie.Need-part-append-unchecked-start
+part-append-unchecked-start c = search needs
 
-part-put-end : tie.Need-part-put-end
-part-put-end c = file-end (c .before .before .before .before .before .before .before .before .pre) (c .before .before .before .bytes .given .1)
+part-append-unchecked-end : tie.Need-part-append-unchecked-end
+part-append-unchecked-end c = file-end (c .before .before .before .before .before .before .before .before .pre) (c .before .before .before .bytes .given .1)
 
-put-requires : tie.Need-put-requires
-put-requires c κs = search needs
+append-unchecked-requires : tie.Need-append-unchecked-requires
+append-unchecked-requires c κs = search needs
 
 noted-requires : tie.Need-noted-requires
 noted-requires c κs = search needs
@@ -42,7 +42,7 @@ enum-known-bytes-2 : tie.Need-enum-known-bytes-2
 enum-known-bytes-2 c = search needs
 
 add-end-2 : tie.Need-add-end-2
-add-end-2 c = omega (arith, wide-end (c .before .before .before .before .before .before .before .pre) (c .before .before .bytes2 .given .1))
+add-end-2 c = omega (arith, utf16-end (c .before .before .before .before .before .before .before .pre) (c .before .before .bytes2 .given .1))
 
 sub-utf16-to-utf8 : tie.Need-sub-utf16-to-utf8
 sub-utf16-to-utf8 c = search needs
@@ -51,7 +51,7 @@ part-utf16-to-utf8-start : tie.Need-part-utf16-to-utf8-start
 part-utf16-to-utf8-start c = search needs
 
 part-utf16-to-utf8-end : tie.Need-part-utf16-to-utf8-end
-part-utf16-to-utf8-end c = wide-end (c .before .before .before .before .before .before .before .pre) (c .before .before .bytes2 .given .1)
+part-utf16-to-utf8-end c = utf16-end (c .before .before .before .before .before .before .before .pre) (c .before .before .bytes2 .given .1)
 
 utf16-to-utf8-requires : tie.Need-utf16-to-utf8-requires
 utf16-to-utf8-requires c κs = search needs
@@ -59,18 +59,18 @@ utf16-to-utf8-requires c κs = search needs
 enum-known-n : tie.Need-enum-known-n
 enum-known-n c = search needs
 
-slice-reshare-prefix-put : tie.Need-slice-reshare-prefix-put
-slice-reshare-prefix-put c =
+slice-reshare-prefix-append-unchecked : tie.Need-slice-reshare-prefix-append-unchecked
+slice-reshare-prefix-append-unchecked c =
     let u = c .before .before .before .before .before .before .utf16-to-utf8 in
     text-fits (c .before .before .before .before .before .before .before .before .before .before .before .before .before .before .before .before .pre) (c .before .before .before .before .before .before .before .before .before .before .before .bytes2 .given .1) (c .before .before .before .before .before .before .before .before .before .before .before .before .before .before .before .before .args .scratch .now) (u .result) (u .ensures .0) _ (u .ensures .1) (c .before .before .n .given .1)
 
-slice-aggregate-put : tie.Need-slice-aggregate-put
-slice-aggregate-put c =
+slice-aggregate-append-unchecked : tie.Need-slice-aggregate-append-unchecked
+slice-aggregate-append-unchecked c =
     let u = c .before .before .before .before .before .before .before .utf16-to-utf8 in
     sym (length-take-le _ _ (text-fits (c .before .before .before .before .before .before .before .before .before .before .before .before .before .before .before .before .before .pre) (c .before .before .before .before .before .before .before .before .before .before .before .before .bytes2 .given .1) (c .before .before .before .before .before .before .before .before .before .before .before .before .before .before .before .before .before .args .scratch .now) (u .result) (u .ensures .0) _ (u .ensures .1) (c .before .before .before .n .given .1)))
 
-put-requires-2 : tie.Need-put-requires-2
-put-requires-2 c κs = search needs
+append-unchecked-requires-2 : tie.Need-append-unchecked-requires-2
+append-unchecked-requires-2 c κs = search needs
 
 noted-requires-2 : tie.Need-noted-requires-2
 noted-requires-2 c κs = search needs
@@ -80,6 +80,9 @@ enum-told-2 c = search needs
 
 enum-told-3 : tie.Need-enum-told-3
 enum-told-3 c = search needs
+
+enum-known-bytes-3 : tie.Need-enum-known-bytes-3
+enum-known-bytes-3 c = search needs
 
 same-length : tie.Need-same-length
 same-length c = search needs
@@ -96,7 +99,7 @@ same-length-2 c = search needs
 returns-2 : tie.Need-returns-2
 returns-2 c =
     let a = c .before .before .before .before .before .before .before .before .before .before .before .before .before .args in
-    let p = c .before .before .before .put in
+    let p = c .before .before .before .append-unchecked in
     file-noted (c .before .before .before .before .before .before .before .before .before .before .before .before .before .pre) (c .before .before .before .before .before .before .before .before .bytes .given .1) (a .scratch .now) (a .tape .now) (a .held) _ _ (c .noted .ensures ∙ ap fromTape (p .ensures .0)) (p .ensures .1)
 
 same-length-3 : tie.Need-same-length-3
@@ -108,9 +111,9 @@ same-length-4 c = search needs
 returns-3 : tie.Need-returns-3
 returns-3 c =
     let a = c .before .before .before .before .before .before .before .before .before .before .before .before .before .before .before .before .before .before .before .before .before .args in
-    let p = c .before .before .before .put2 in
+    let p = c .before .before .before .append-unchecked2 in
     let u = c .before .before .before .before .before .before .before .before .before .before .before .utf16-to-utf8 in
-    wide-noted (c .before .before .before .before .before .before .before .before .before .before .before .before .before .before .before .before .before .before .before .before .before .pre) (c .before .before .before .before .before .before .before .before .before .before .before .before .before .before .before .before .bytes2 .given .1) (a .scratch .now) (u .result) (u .ensures .0) _ (u .ensures .1) (c .before .before .before .before .before .before .before .n .given .1) (bytes-of (a .file .now) (λ i. omega (arith, c .before .before .before .before .before .before .before .before .before .before .before .before .before .before .before .before .before .before .before .before .shared-slice-known .given i))) (a .tape .now) (a .held) _ _ (c .noted2 .ensures ∙ ap fromTape (p .ensures .0)) (p .ensures .1)
+    utf16-noted (c .before .before .before .before .before .before .before .before .before .before .before .before .before .before .before .before .before .before .before .before .before .pre) (c .before .before .before .before .before .before .before .before .before .before .before .before .before .before .before .before .bytes2 .given .1) (a .scratch .now) (u .result) (u .ensures .0) _ (u .ensures .1) (c .before .before .before .before .before .before .before .n .given .1) (bytes-of (a .file .now) (λ i. omega (arith, c .before .before .before .before .before .before .before .before .before .before .before .before .before .before .before .before .before .before .before .before .shared-slice-known .given i))) (a .tape .now) (a .held) _ _ (c .noted2 .ensures ∙ ap fromTape (p .ensures .0)) (p .ensures .1)
 
 same-length-5 : tie.Need-same-length-5
 same-length-5 c = search needs
@@ -130,6 +133,9 @@ returns-5 c =
     let u = c .before .before .before .before .utf16-to-utf8 in
     absurd (never-bad (c .before .before .before .before .before .before .before .before .before .before .before .before .before .before .pre) (c .before .before .before .before .before .before .before .before .before .bytes2 .given .1) (c .before .before .before .before .before .before .before .before .before .before .before .before .before .before .args .scratch .now) (u .result) (u .ensures .0) (c .enum-told3 .given .1))
 
+returns-6 : tie.Need-returns-6
+returns-6 c = absurd (never-denied (c .before .before .before .before .before .before .pre) (c .before .bytes3 .given .1))
+
 pub note-spec : {M : Type 1} → statement M
 note-spec =
     tie.close
@@ -138,10 +144,10 @@ note-spec =
     note-plain-requires
     enum-known-bytes
     add-end
-    sub-put
-    part-put-start
-    part-put-end
-    put-requires
+    sub-append-unchecked
+    part-append-unchecked-start
+    part-append-unchecked-end
+    append-unchecked-requires
     noted-requires
     enum-known-bytes-2
     add-end-2
@@ -150,12 +156,13 @@ note-spec =
     part-utf16-to-utf8-end
     utf16-to-utf8-requires
     enum-known-n
-    slice-reshare-prefix-put
-    slice-aggregate-put
-    put-requires-2
+    slice-reshare-prefix-append-unchecked
+    slice-aggregate-append-unchecked
+    append-unchecked-requires-2
     noted-requires-2
     enum-told-2
     enum-told-3
+    enum-known-bytes-3
     same-length
     returns
     same-length-2
@@ -166,4 +173,5 @@ note-spec =
     same-length-5
     returns-4
     same-length-6
-    returns-5)
+    returns-5
+    returns-6)

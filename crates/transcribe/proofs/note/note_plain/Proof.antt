@@ -2,18 +2,18 @@
 use mathlib.Core.List.{[]}
 use mathlib.Core.Path.{refl, ap, _∙_}
 use Rattle.event.specs.Meaning.{meaningOf}
-use Rattle.transcribe.specs.Asking.{plain-means}
+use Rattle.transcribe.specs.HandedLaws.{plain-means}
 use Rattle.transcribe.specs.Note.{fromTape}
 use borrow.Author.Needs.{needs}
 use Rattle.tape.specs.AppendLaws.{put-event}
 use Rattle.transcribe.proofs.note.note_plain.Statement.{statement}
 use Rattle.transcribe.proofs.note.note_plain.Tie as tie
 
-slice-aggregate-put : tie.Need-slice-aggregate-put
-slice-aggregate-put c = search needs
+slice-aggregate-append-unchecked : tie.Need-slice-aggregate-append-unchecked
+slice-aggregate-append-unchecked c = search needs
 
-put-requires : tie.Need-put-requires
-put-requires c κs = search needs
+append-unchecked-requires : tie.Need-append-unchecked-requires
+append-unchecked-requires c κs = search needs
 
 noted-requires : tie.Need-noted-requires
 noted-requires c κs = search needs
@@ -24,7 +24,7 @@ same-length c = search needs
 returns : tie.Need-returns
 returns c =
     let a = c .before .before .before .before .before .before .before .args in
-    let p = c .before .before .before .put in
+    let p = c .before .before .before .append-unchecked in
     let t = put-event (a .tape .now) (a .held) (meaningOf (a .event) []) (plain-means (a .event) [] (c .before .before .before .before .before .before .before .pre) .1) (refl, refl) in (
       c .noted .ensures ∙ ap fromTape (p .ensures .0 ∙ t .0),
       p .ensures .1 ∙ t .1,
@@ -32,4 +32,4 @@ returns c =
 
 pub note-plain-spec : {M : Type 1} → statement M
 note-plain-spec =
-    tie.close (tie.spec slice-aggregate-put put-requires noted-requires same-length returns)
+    tie.close (tie.spec slice-aggregate-append-unchecked append-unchecked-requires noted-requires same-length returns)

@@ -5,17 +5,20 @@ use native.Mathlib.Omega.{arith}
 use borrow.Author.Needs.{needs}
 use lib.ListN.{length, replicate}
 use lib.Dec.{lit≤}
-use Rattle.reader.specs.Machine.{arrive, scalar, container}
-use Rattle.reader.specs.Said.{shapeSaid, numberOf, valuesOf, lookSaid, lookBytes}
-use Rattle.reader.specs.State.{nextIn, maxOpen, noFrame}
-use Rattle.reader.specs.declared.layout.Due.the-variants.{Close, Member}
-use Rattle.reader.specs.Request.{hasBytes}
-use Rattle.reader.specs.Layout.{lookOf}
+use Rattle.layout.specs.LookLaws.{placed-scalar, placed-container}
+use Rattle.layout.specs.Looked.{scalar, container}
+use Rattle.layout.specs.Said.{shapeSaid, numberOf, valuesOf, lookSaid, lookBytes}
+use Rattle.layout.specs.Frame.{nextIn, noFrame}
+use Rattle.layout.specs.declared.layout.Due.the-variants.{Close, Member}
+use Rattle.layout.specs.Bytes.{hasBytes}
+use Rattle.layout.specs.Layout.{lookOf}
+use Rattle.reader.specs.Machine.{arrive}
+use Rattle.reader.specs.State.{maxOpen}
 use Rattle.reader.specs.Next.{laidOut}
 use Rattle.transcribe.specs.Said.{noteSaid, endSaid}
 use Rattle.transcribe.specs.Run.{onward}
-use Rattle.transcribe.proofs.Walking.{Stands, leftOf, due, looked, short-number, short-length, Turn, call-root, is-wrong, close-fails, close-finishes, close-goes, is-barred, is-missing, is-faulty, notable, counts, scalar-fails, scalar-finishes, scalar-goes, scalar-stands, is-open-now, is-deep, enter-fails, enter-goes, enter-stands}
-use Rattle.transcribe.proofs.Calls.{start-plain}
+use Rattle.transcribe.proofs.Walking.{Stands, leftOf, due, looked, short-number, short-length, Turn, call-root, is-wrong, close-fails, close-finishes, close-goes, is-refused, notable, counts, scalar-fails, scalar-finishes, scalar-goes, scalar-stands, is-open-now, is-deep, enter-fails, enter-goes, enter-stands, still-long}
+use Rattle.transcribe.specs.HandedLaws.{start-plain}
 use Rattle.transcribe.proofs.walk.walk.Statement.{statement}
 use Rattle.transcribe.proofs.walk.walk.Tie as tie
 
@@ -64,11 +67,11 @@ due-member c = sym (c .before .before .due-now .ensures) ∙ c .object .given .1
 -- what a member is found to be: a scalar, or a container
 found-scalar : (c : tie.After-event Inv-loop μ-loop) → looked (turn (c .before .before .before .before .before .before)) (c .before .before .before .before .object .given .0 .0) ≡ scalar (c .event .given .0 .0) (c .event .given .0 .1 .1 .0)
 unfolding lookSaid
-found-scalar c = sym (c .before .before .look-up .ensures .0) ∙ ap lookSaid (c .event .given .1)
+found-scalar c = placed-scalar _ _ _ _ (sym (c .before .before .look-up .ensures .0) ∙ ap lookSaid (c .event .given .1))
 
 found-container : (c : tie.After-shape Inv-loop μ-loop) → looked (turn (c .before .before .before .before .before .before)) (c .before .before .before .before .object .given .0 .0) ≡ container (shapeSaid (c .shape .given .0 .0)) (c .shape .given .0 .1 .0) (c .shape .given .0 .1 .1 .0)
 unfolding lookSaid
-found-container c = sym (c .before .before .look-up .ensures .0) ∙ ap lookSaid (c .shape .given .1)
+found-container c = placed-container _ _ _ _ _ (sym (c .before .before .look-up .ensures .0) ∙ ap lookSaid (c .shape .given .1))
 
 cast-place : tie.Need-cast-place Inv-loop μ-loop
 cast-place c = search needs
@@ -200,39 +203,7 @@ same-length-8 c = c .before .before .before .before .before .before .before .bef
 
 returns-4 : tie.Need-returns-4 Inv-loop μ-loop
 unfolding lookSaid
-returns-4 c = rw (c .refused2 .ensures .0, c .refused2 .ensures .1) (is-barred (turn (c .before .before .before .before .before .before .before .before)) _ (due-member (c .before .before .before .before .before .before)) _ _ (sym (c .before .before .before .before .look-up .ensures .0) ∙ ap lookSaid (c .before .before .refusal .given .1)))
-
-enum-told-3 : tie.Need-enum-told-3 Inv-loop μ-loop
-enum-told-3 c = search needs
-
-refused-requires-3 : tie.Need-refused-requires-3 Inv-loop μ-loop
-refused-requires-3 c κs = search needs
-
-same-length-9 : tie.Need-same-length-9 Inv-loop μ-loop
-same-length-9 c = c .before .before .before .before .before .before .before .before .before .before .before .loop .inv .0
-
-same-length-10 : tie.Need-same-length-10 Inv-loop μ-loop
-same-length-10 c = c .before .before .before .before .before .before .before .before .before .before .before .loop .inv .1
-
-returns-5 : tie.Need-returns-5 Inv-loop μ-loop
-unfolding lookSaid numberOf valuesOf
-returns-5 c = rw (c .refused3 .ensures .0, c .refused3 .ensures .1) (is-missing (turn (c .before .before .before .before .before .before .before)) _ (due-member (c .before .before .before .before .before)) (sym (c .before .before .before .look-up .ensures .0) ∙ ap lookSaid (c .before .enum-told3 .given .1)))
-
-enum-known-refusal-2 : tie.Need-enum-known-refusal-2 Inv-loop μ-loop
-enum-known-refusal-2 c = search needs
-
-refused-requires-4 : tie.Need-refused-requires-4 Inv-loop μ-loop
-refused-requires-4 c κs = search needs
-
-same-length-11 : tie.Need-same-length-11 Inv-loop μ-loop
-same-length-11 c = c .before .before .before .before .before .before .before .before .before .before .before .before .loop .inv .0
-
-same-length-12 : tie.Need-same-length-12 Inv-loop μ-loop
-same-length-12 c = c .before .before .before .before .before .before .before .before .before .before .before .before .loop .inv .1
-
-returns-6 : tie.Need-returns-6 Inv-loop μ-loop
-unfolding lookSaid
-returns-6 c = rw (c .refused4 .ensures .0, c .refused4 .ensures .1) (is-faulty (turn (c .before .before .before .before .before .before .before .before)) _ (due-member (c .before .before .before .before .before .before)) _ _ _ (sym (c .before .before .before .before .look-up .ensures .0) ∙ ap lookSaid (c .before .before .refusal2 .given .1)))
+returns-4 c = rw (c .refused2 .ensures .0, c .refused2 .ensures .1) (is-refused (turn (c .before .before .before .before .before .before .before .before)) _ (due-member (c .before .before .before .before .before .before)) _ _ _ (sym (c .before .before .before .before .look-up .ensures .0) ∙ ap lookSaid (c .before .before .refusal .given .1)))
 
 enum-known-event : tie.Need-enum-known-event Inv-loop μ-loop
 enum-known-event c = search needs
@@ -247,15 +218,15 @@ enum-known-failure-2 c = search needs
 failed-requires-2 : tie.Need-failed-requires-2 Inv-loop μ-loop
 failed-requires-2 c κs = search needs
 
-same-length-13 : tie.Need-same-length-13 Inv-loop μ-loop
-same-length-13 c = c .before .before .before .before .before .before .before .before .note .kept .1 .0 ∙ c .before .before .before .before .before .before .before .before .before .before .before .before .before .before .before .before .before .before .before .before .before .before .loop .inv .0
+same-length-9 : tie.Need-same-length-9 Inv-loop μ-loop
+same-length-9 c = c .before .before .before .before .before .before .before .before .note .kept .1 .0 ∙ c .before .before .before .before .before .before .before .before .before .before .before .before .before .before .before .before .before .before .before .before .before .before .loop .inv .0
 
-same-length-14 : tie.Need-same-length-14 Inv-loop μ-loop
-same-length-14 c = c .before .before .before .before .before .before .before .before .note .kept .1 .1 .0 ∙ c .before .before .before .before .before .before .before .before .before .before .before .before .before .before .before .before .before .before .before .before .before .before .loop .inv .1
+same-length-10 : tie.Need-same-length-10 Inv-loop μ-loop
+same-length-10 c = c .before .before .before .before .before .before .before .before .note .kept .1 .1 .0 ∙ c .before .before .before .before .before .before .before .before .before .before .before .before .before .before .before .before .before .before .before .before .before .before .loop .inv .1
 
-returns-7 : tie.Need-returns-7 Inv-loop μ-loop
+returns-5 : tie.Need-returns-5 Inv-loop μ-loop
 unfolding noteSaid
-returns-7 c = rw (c .failed2 .ensures .0, c .failed2 .ensures .1) (scalar-fails (turn (c .before .before .before .before .before .before .before .before .before .before .before .before .before .before .before .before .before .before)) _ (due-member (c .before .before .before .before .before .before .before .before .before .before .before .before .before .before .before .before)) _ _ (found-scalar (c .before .before .before .before .before .before .before .before .before .before .before .before)) _ _ _ (c .before .before .before .before .before .before .before .before .note .ensures) _ (ap noteSaid (c .before .before .failure2 .given .1)))
+returns-5 c = rw (c .failed2 .ensures .0, c .failed2 .ensures .1) (scalar-fails (turn (c .before .before .before .before .before .before .before .before .before .before .before .before .before .before .before .before .before .before)) _ (due-member (c .before .before .before .before .before .before .before .before .before .before .before .before .before .before .before .before)) _ _ (found-scalar (c .before .before .before .before .before .before .before .before .before .before .before .before)) _ _ _ (c .before .before .before .before .before .before .before .before .note .ensures) _ (ap noteSaid (c .before .before .failure2 .given .1)))
 
 enum-known-n-2 : tie.Need-enum-known-n-2 Inv-loop μ-loop
 enum-known-n-2 c = search needs
@@ -263,15 +234,15 @@ enum-known-n-2 c = search needs
 finished-requires-2 : tie.Need-finished-requires-2 Inv-loop μ-loop
 finished-requires-2 c κs = search needs
 
-same-length-15 : tie.Need-same-length-15 Inv-loop μ-loop
-same-length-15 c = c .before .before .before .before .before .before .before .before .before .note .kept .1 .0 ∙ c .before .before .before .before .before .before .before .before .before .before .before .before .before .before .before .before .before .before .before .before .before .before .before .loop .inv .0
+same-length-11 : tie.Need-same-length-11 Inv-loop μ-loop
+same-length-11 c = c .before .before .before .before .before .before .before .before .before .note .kept .1 .0 ∙ c .before .before .before .before .before .before .before .before .before .before .before .before .before .before .before .before .before .before .before .before .before .before .before .loop .inv .0
 
-same-length-16 : tie.Need-same-length-16 Inv-loop μ-loop
-same-length-16 c = c .before .before .before .before .before .before .before .before .before .note .kept .1 .1 .0 ∙ c .before .before .before .before .before .before .before .before .before .before .before .before .before .before .before .before .before .before .before .before .before .before .before .loop .inv .1
+same-length-12 : tie.Need-same-length-12 Inv-loop μ-loop
+same-length-12 c = c .before .before .before .before .before .before .before .before .before .note .kept .1 .1 .0 ∙ c .before .before .before .before .before .before .before .before .before .before .before .before .before .before .before .before .before .before .before .before .before .before .before .loop .inv .1
 
-returns-8 : tie.Need-returns-8 Inv-loop μ-loop
+returns-6 : tie.Need-returns-6 Inv-loop μ-loop
 unfolding noteSaid
-returns-8 c = rw (c .finished2 .ensures .0, c .finished2 .ensures .1) (scalar-finishes (turn (c .before .before .before .before .before .before .before .before .before .before .before .before .before .before .before .before .before .before .before)) _ (due-member (c .before .before .before .before .before .before .before .before .before .before .before .before .before .before .before .before .before)) _ _ (found-scalar (c .before .before .before .before .before .before .before .before .before .before .before .before .before)) _ _ _ (c .before .before .before .before .before .before .before .before .before .note .ensures) (c .before .if2 .taken) _ (ap noteSaid (c .before .before .before .n2 .given .1)))
+returns-6 c = rw (c .finished2 .ensures .0, c .finished2 .ensures .1) (scalar-finishes (turn (c .before .before .before .before .before .before .before .before .before .before .before .before .before .before .before .before .before .before .before)) _ (due-member (c .before .before .before .before .before .before .before .before .before .before .before .before .before .before .before .before .before)) _ _ (found-scalar (c .before .before .before .before .before .before .before .before .before .before .before .before .before)) _ _ _ (c .before .before .before .before .before .before .before .before .before .note .ensures) (c .before .if2 .taken) _ (ap noteSaid (c .before .before .before .n2 .given .1)))
 
 mul-frames-2 : tie.Need-mul-frames-2 Inv-loop μ-loop
 mul-frames-2 c = search needs
@@ -312,31 +283,31 @@ cast-number c = omega (arith, short-number (turn (c .before .before .before .bef
 is-open-requires : tie.Need-is-open-requires Inv-loop μ-loop
 is-open-requires c κs = search needs
 
-refused-requires-5 : tie.Need-refused-requires-5 Inv-loop μ-loop
-refused-requires-5 c κs = search needs
+refused-requires-3 : tie.Need-refused-requires-3 Inv-loop μ-loop
+refused-requires-3 c κs = search needs
 
-same-length-17 : tie.Need-same-length-17 Inv-loop μ-loop
-same-length-17 c = c .before .before .before .before .before .before .before .before .before .before .before .before .before .before .loop .inv .0
+same-length-13 : tie.Need-same-length-13 Inv-loop μ-loop
+same-length-13 c = c .before .before .before .before .before .before .before .before .before .before .before .before .before .before .loop .inv .0
 
-same-length-18 : tie.Need-same-length-18 Inv-loop μ-loop
-same-length-18 c = c .before .before .before .before .before .before .before .before .before .before .before .before .before .before .loop .inv .1
+same-length-14 : tie.Need-same-length-14 Inv-loop μ-loop
+same-length-14 c = c .before .before .before .before .before .before .before .before .before .before .before .before .before .before .loop .inv .1
 
-returns-9 : tie.Need-returns-9 Inv-loop μ-loop
+returns-7 : tie.Need-returns-7 Inv-loop μ-loop
 unfolding numberOf valuesOf
-returns-9 c = rw (c .refused5 .ensures .0, c .refused5 .ensures .1) (is-open-now (turn (c .before .before .before .before .before .before .before .before .before .before)) _ (due-member (c .before .before .before .before .before .before .before .before)) _ _ _ (found-container (c .before .before .before .before)) (sym (c .before .before .is-open .ensures) ∙ c .before .if3 .taken))
+returns-7 c = rw (c .refused3 .ensures .0, c .refused3 .ensures .1) (is-open-now (turn (c .before .before .before .before .before .before .before .before .before .before)) _ (due-member (c .before .before .before .before .before .before .before .before)) _ _ _ (found-container (c .before .before .before .before)) (sym (c .before .before .is-open .ensures) ∙ c .before .if3 .taken))
 
-refused-requires-6 : tie.Need-refused-requires-6 Inv-loop μ-loop
-refused-requires-6 c κs = search needs
+refused-requires-4 : tie.Need-refused-requires-4 Inv-loop μ-loop
+refused-requires-4 c κs = search needs
 
-same-length-19 : tie.Need-same-length-19 Inv-loop μ-loop
-same-length-19 c = c .before .before .before .before .before .before .before .before .before .before .before .before .before .before .before .loop .inv .0
+same-length-15 : tie.Need-same-length-15 Inv-loop μ-loop
+same-length-15 c = c .before .before .before .before .before .before .before .before .before .before .before .before .before .before .before .loop .inv .0
 
-same-length-20 : tie.Need-same-length-20 Inv-loop μ-loop
-same-length-20 c = c .before .before .before .before .before .before .before .before .before .before .before .before .before .before .before .loop .inv .1
+same-length-16 : tie.Need-same-length-16 Inv-loop μ-loop
+same-length-16 c = c .before .before .before .before .before .before .before .before .before .before .before .before .before .before .before .loop .inv .1
 
-returns-10 : tie.Need-returns-10 Inv-loop μ-loop
+returns-8 : tie.Need-returns-8 Inv-loop μ-loop
 unfolding numberOf valuesOf
-returns-10 c = rw (c .refused6 .ensures .0, c .refused6 .ensures .1) (is-deep (turn (c .before .before .before .before .before .before .before .before .before .before .before)) _ (due-member (c .before .before .before .before .before .before .before .before .before)) _ _ _ (found-container (c .before .before .before .before .before)) (sym (c .before .before .before .is-open .ensures) ∙ c .before .before .if3 .left) (c .before .if4 .taken))
+returns-8 c = rw (c .refused4 .ensures .0, c .refused4 .ensures .1) (is-deep (turn (c .before .before .before .before .before .before .before .before .before .before .before)) _ (due-member (c .before .before .before .before .before .before .before .before .before)) _ _ _ (found-container (c .before .before .before .before .before)) (sym (c .before .before .before .is-open .ensures) ∙ c .before .before .if3 .left) (c .before .if4 .taken))
 
 start-of-requires : tie.Need-start-of-requires Inv-loop μ-loop
 start-of-requires c κs = search needs
@@ -350,15 +321,15 @@ enum-known-failure-3 c = search needs
 failed-requires-3 : tie.Need-failed-requires-3 Inv-loop μ-loop
 failed-requires-3 c κs = search needs
 
-same-length-21 : tie.Need-same-length-21 Inv-loop μ-loop
-same-length-21 c = c .before .before .before .before .before .before .before .before .before .before .before .before .before .before .before .before .before .before .before .before .before .before .before .loop .inv .0
+same-length-17 : tie.Need-same-length-17 Inv-loop μ-loop
+same-length-17 c = c .before .before .before .before .before .before .before .before .before .before .before .before .before .before .before .before .before .before .before .before .before .before .before .loop .inv .0
 
-same-length-22 : tie.Need-same-length-22 Inv-loop μ-loop
-same-length-22 c = c .before .before .before .before .before .before .note-plain2 .kept .0 ∙ c .before .before .before .before .before .before .before .before .before .before .before .before .before .before .before .before .before .before .before .before .before .before .before .loop .inv .1
+same-length-18 : tie.Need-same-length-18 Inv-loop μ-loop
+same-length-18 c = c .before .before .before .before .before .before .note-plain2 .kept .0 ∙ c .before .before .before .before .before .before .before .before .before .before .before .before .before .before .before .before .before .before .before .before .before .before .before .loop .inv .1
 
-returns-11 : tie.Need-returns-11 Inv-loop μ-loop
+returns-9 : tie.Need-returns-9 Inv-loop μ-loop
 unfolding noteSaid
-returns-11 c = rw (c .failed3 .ensures .0, c .failed3 .ensures .1) (enter-fails (turn (c .before .before .before .before .before .before .before .before .before .before .before .before .before .before .before .before .before .before .before)) _ (due-member (c .before .before .before .before .before .before .before .before .before .before .before .before .before .before .before .before .before)) _ _ _ (found-container (c .before .before .before .before .before .before .before .before .before .before .before .before .before)) (sym (c .before .before .before .before .before .before .before .before .before .before .before .is-open .ensures) ∙ c .before .before .before .before .before .before .before .before .before .before .if3 .left) (c .before .before .before .before .before .before .before .before .before .if4 .left) _ (c .before .before .before .before .before .before .before .start-of .ensures) _ _ (c .before .before .before .before .before .before .note-plain2 .ensures .0) (c .before .before .before .before .before .before .note-plain2 .ensures .1) _ (ap noteSaid (c .before .before .failure3 .given .1)))
+returns-9 c = rw (c .failed3 .ensures .0, c .failed3 .ensures .1) (enter-fails (turn (c .before .before .before .before .before .before .before .before .before .before .before .before .before .before .before .before .before .before .before)) _ (due-member (c .before .before .before .before .before .before .before .before .before .before .before .before .before .before .before .before .before)) _ _ _ (found-container (c .before .before .before .before .before .before .before .before .before .before .before .before .before)) (sym (c .before .before .before .before .before .before .before .before .before .before .before .is-open .ensures) ∙ c .before .before .before .before .before .before .before .before .before .before .if3 .left) (c .before .before .before .before .before .before .before .before .before .if4 .left) _ (c .before .before .before .before .before .before .before .start-of .ensures) _ _ (c .before .before .before .before .before .before .note-plain2 .ensures .0) (c .before .before .before .before .before .before .note-plain2 .ensures .1) _ (ap noteSaid (c .before .before .failure3 .given .1)))
 
 enum-known-n-3 : tie.Need-enum-known-n-3 Inv-loop μ-loop
 enum-known-n-3 c = search needs
@@ -378,8 +349,8 @@ mul-frames-5 c = search needs
 way-write-given-frames-2 : tie.Need-way-write-given-frames-2 Inv-loop μ-loop
 way-write-given-frames-2 c = search needs
 
-cast-t81 : tie.Need-cast-t81 Inv-loop μ-loop
-cast-t81 c = omega (arith, short-length (turn (c .before .before .before .before .before .before .before .before .before .before .before .before .before .before .before .before .before .before .before)) _ _ _ _ (found-container (c .before .before .before .before .before .before .before .before .before .before .before .before .before)))
+cast-t79 : tie.Need-cast-t79 Inv-loop μ-loop
+cast-t79 c = omega (arith, short-length (turn (c .before .before .before .before .before .before .before .before .before .before .before .before .before .before .before .before .before .before .before)) _ _ _ _ (found-container (c .before .before .before .before .before .before .before .before .before .before .before .before .before)))
 
 mul-frames-6 : tie.Need-mul-frames-6 Inv-loop μ-loop
 mul-frames-6 c = search needs
@@ -404,19 +375,19 @@ loop-again-3 c = (
   omega arith,
   λ e. absurd (omega arith),
   enter-goes (turn (c .before .before .before .before .before .before .before .before .before .before .before .before .before .before .before .before .before .before .before .before)) _ (due-member (c .before .before .before .before .before .before .before .before .before .before .before .before .before .before .before .before .before .before)) _ _ _ (found-container (c .before .before .before .before .before .before .before .before .before .before .before .before .before .before)) (sym (c .before .before .before .before .before .before .before .before .before .before .before .before .is-open .ensures) ∙ c .before .before .before .before .before .before .before .before .before .before .before .if3 .left) (c .before .before .before .before .before .before .before .before .before .before .if4 .left) _ (c .before .before .before .before .before .before .before .before .start-of .ensures) _ _ (c .before .before .before .before .before .before .before .note-plain2 .ensures .0) (c .before .before .before .before .before .before .before .note-plain2 .ensures .1) _ (ap noteSaid (c .before .before .before .n3 .given .1)),
-  search needs,
+  still-long (turn (c .before .before .before .before .before .before .before .before .before .before .before .before .before .before .before .before .before .before .before .before)) _ _,
   enter-stands (turn (c .before .before .before .before .before .before .before .before .before .before .before .before .before .before .before .before .before .before .before .before)) _ (due-member (c .before .before .before .before .before .before .before .before .before .before .before .before .before .before .before .before .before .before)) _ _ _ (found-container (c .before .before .before .before .before .before .before .before .before .before .before .before .before .before)) (c .before .before .before .before .before .before .before .before .before .before .if4 .left) _ (c .container-at .ensures),
 )
 
-same-length-23 : tie.Need-same-length-23 Inv-loop μ-loop
-same-length-23 c = c .before .loop .inv .0
+same-length-19 : tie.Need-same-length-19 Inv-loop μ-loop
+same-length-19 c = c .before .loop .inv .0
 
-same-length-24 : tie.Need-same-length-24 Inv-loop μ-loop
-same-length-24 c = c .before .loop .inv .1
+same-length-20 : tie.Need-same-length-20 Inv-loop μ-loop
+same-length-20 c = c .before .loop .inv .1
 
-returns-12 : tie.Need-returns-12 Inv-loop μ-loop
+returns-10 : tie.Need-returns-10 Inv-loop μ-loop
 unfolding endSaid onward
-returns-12 c =
+returns-10 c =
     let e : c .before .loop .left ≡ 0 = omega arith in
     rw (e, onward) at (c .before .loop .inv .4)
 
@@ -465,28 +436,18 @@ walk-spec =
     same-length-7
     same-length-8
     returns-4
-    enum-told-3
-    refused-requires-3
-    same-length-9
-    same-length-10
-    returns-5
-    enum-known-refusal-2
-    refused-requires-4
-    same-length-11
-    same-length-12
-    returns-6
     enum-known-event
     note-requires
     enum-known-failure-2
     failed-requires-2
-    same-length-13
-    same-length-14
-    returns-7
+    same-length-9
+    same-length-10
+    returns-5
     enum-known-n-2
     finished-requires-2
-    same-length-15
-    same-length-16
-    returns-8
+    same-length-11
+    same-length-12
+    returns-6
     mul-frames-2
     element-copy-out-frames
     add-frames
@@ -497,34 +458,34 @@ walk-spec =
     enum-known-shape
     cast-number
     is-open-requires
-    refused-requires-5
-    same-length-17
-    same-length-18
-    returns-9
-    refused-requires-6
-    same-length-19
-    same-length-20
-    returns-10
+    refused-requires-3
+    same-length-13
+    same-length-14
+    returns-7
+    refused-requires-4
+    same-length-15
+    same-length-16
+    returns-8
     start-of-requires
     note-plain-requires-2
     enum-known-failure-3
     failed-requires-3
-    same-length-21
-    same-length-22
-    returns-11
+    same-length-17
+    same-length-18
+    returns-9
     enum-known-n-3
     mul-frames-4
     element-copy-out-frames-2
     add-frames-2
     mul-frames-5
     way-write-given-frames-2
-    cast-t81
+    cast-t79
     mul-frames-6
     array-set-from-frames-2
     add-depth
     container-at-requires
     loop-less-3
     loop-again-3
-    same-length-23
-    same-length-24
-    returns-12)
+    same-length-19
+    same-length-20
+    returns-10)

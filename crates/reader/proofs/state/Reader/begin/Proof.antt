@@ -1,9 +1,9 @@
 -- `begin` reads the trailer and looks the root up.
 use mathlib.Core.Path.{sym, ap, _∙_}
 use borrow.Author.Needs.{needs}
+use Rattle.layout.proofs.Short.{laid-short}
+use Rattle.layout.specs.Said.{trailerSaid}
 use Rattle.reader.specs.Next.{begin}
-use Rattle.reader.specs.Said.{stepSaid, said, trailerSaid}
-use Rattle.reader.proofs.Short.{laid-short}
 use Rattle.reader.proofs.state.Reader.begin.Statement.{statement}
 use Rattle.reader.proofs.state.Reader.begin.Tie as tie
 
@@ -12,6 +12,9 @@ trailer-of-requires c κs = search needs
 
 enum-known-refusal : tie.Need-enum-known-refusal
 enum-known-refusal c = search needs
+
+kept-requires : tie.Need-kept-requires
+kept-requires c κs = search needs
 
 enum-known-refusal-2 : tie.Need-enum-known-refusal-2
 enum-known-refusal-2 c = search needs
@@ -27,8 +30,8 @@ unfolding trailerSaid
 at-root-requires c κs = laid-short (c .before .before .before .before .before .args .file .now) _ _ (sym (c .before .before .before .trailer-of .ensures) ∙ ap trailerSaid (c .before .layout .given .1))
 
 returns : tie.Need-returns
-unfolding begin trailerSaid stepSaid said
-returns c = rw (sym (c .before .before .before .trailer-of .ensures) ∙ ap trailerSaid (c .before .refusal .given .1))
+unfolding begin trailerSaid
+returns c = rw (sym (c .before .before .before .before .trailer-of .ensures) ∙ ap trailerSaid (c .before .before .refusal .given .1)) (c .kept .ensures)
 
 returns-2 : tie.Need-returns-2
 unfolding begin trailerSaid
@@ -44,6 +47,7 @@ begin-spec =
     (tie.spec
     trailer-of-requires
     enum-known-refusal
+    kept-requires
     enum-known-refusal-2
     ended-requires
     enum-known-layout

@@ -1,18 +1,66 @@
--- `next` goes by document 01's order; what is due in the innermost container, and what it names, decide the rest.
-use Prim.Native.Nat.{_+_, _^_, _<_}
-use mathlib.Core.Path.{refl, sym, ap, _∙_}
+-- `next` goes by the order of R21 (docs/FORMAT.md); what is due in the innermost container, and what it names, decide the rest.
+use Prim.Native.Nat.{ℕ}
+use mathlib.Core.List.{List}
+use mathlib.Core.Path.{_≡_, refl, sym, ap, _∙_}
 use native.Mathlib.Omega.{arith}
 use borrow.Author.Needs.{needs}
+use Rattle.number.specs.Width.{widthOf}
+use Rattle.layout.specs.Frame.{nextIn}
+use Rattle.layout.specs.Looked.{container}
+use Rattle.layout.specs.Said.{shapeSaid, lookSaid, numberOf, valuesOf}
+use Rattle.layout.specs.declared.layout.Due.the-variants.{Close, Member}
+use Rattle.reader.specs.Next.{goOn, withRefs, nextOf}
 use Rattle.reader.specs.NextLaws.{next-ended, next-begin, next-long, next-other, next-many, next-on, next-due}
-use Rattle.reader.specs.Next.{goOn, withRefs}
-use Rattle.reader.specs.Machine.{arrive}
-use Rattle.reader.specs.Said.{said, stepSaid, lookSaid, numberOf, valuesOf}
-use Rattle.reader.specs.State.{openOf, innermost, nextIn}
-use Rattle.reader.specs.declared.layout.Layout.{Layout}
-use Rattle.reader.proofs.Counts.{counted, numbered, measured}
-use Rattle.reader.proofs.Steps.{due-wrong, due-last, due-close, due-member, passes, again, deep, enters}
+use Rattle.reader.specs.Said.{said, stepSaid}
+use Rattle.reader.specs.State.{openOf, innermost}
+use Rattle.reader.specs.declared.state.Reader.{Reader}
+use Rattle.reader.proofs.Steps.{Going, due, looked, is-wrong, is-last, closes, Named, is-refused, passes, counts, Holding, is-again, is-deep, enters, short-number, short-count}
 use Rattle.reader.proofs.state.Reader.next.Statement.{statement}
 use Rattle.reader.proofs.state.Reader.next.Tie as tie
+
+-- the file and the state, where nothing has been refused yet
+abbrev file : tie.Else5 → List ℕ
+file c = c .before .before .before .before .before .before .args .file .now
+
+abbrev self : tie.Else5 → Reader
+self c = c .before .before .before .before .before .before .args .t1
+
+sizes : (c : tie.Else5) → nextOf (file c) (self c) ≡ goOn (file c) (self c) (widthOf (self c .offsets)) (widthOf (self c .refs))
+sizes c = next-on (file c) (self c) (c .before .before .before .before .if1 .left) (c .before .before .before .if2 .left) (c .before .before .if3 .left) (c .before .if4 .left) (c .if5 .left)
+
+-- the call, once its sizes are known
+abbrev going : tie.After-known-told2 → Going
+going c =
+    let d = c .before .before .before .before .before .before .before .before in
+    record {
+      file = file d;
+      reader = self d;
+      layout = record { offsets = c .before .before .before .before .before .offsets .given .0 .0; refs = c .before .refs .given .0 .0; count = self d .count; table = self d .table };
+      short = d .before .before .if3 .left;
+      few = omega arith;
+      some = d .before .before .before .if2 .left;
+      on = next-due (file d) (self d) (d .before .before .before .before .if1 .left) (d .before .before .before .if2 .left) (d .before .before .if3 .left) (d .before .if4 .left) (d .if5 .left) _ (sym (c .before .before .before .before .before .before .before .width-of .ensures) ∙ c .before .before .before .before .before .offsets .given .1) (sym (c .before .before .before .width-of2 .ensures) ∙ c .before .refs .given .1) refl refl;
+    }
+
+-- what is due: the innermost container's end, or an object
+due-close : (c : tie.After-offset) → due (going (c .before .before .before .before)) ≡ Close (c .offset .given .0 .0)
+unfolding innermost
+due-close c = sym (c .before .before .due-at .ensures) ∙ c .offset .given .1
+
+due-member : (c : tie.After-object) → due (going (c .before .before .before .before)) ≡ Member (c .object .given .0 .0)
+unfolding innermost
+due-member c = sym (c .before .before .due-at .ensures) ∙ c .object .given .1
+
+abbrev named : tie.After-object → Named
+named c = record { going = going (c .before .before .before .before); object = c .object .given .0 .0; is = due-member c }
+
+-- which is a container
+found-container : (c : tie.After-shape) → looked (named (c .before .before .before .before)) ≡ container (shapeSaid (c .shape .given .0 .0)) (c .shape .given .0 .1 .0) (c .shape .given .0 .1 .1 .0)
+unfolding lookSaid
+found-container c = sym (c .before .before .look-up .ensures .0) ∙ ap lookSaid (c .shape .given .1)
+
+abbrev holding : tie.After-shape → Holding
+holding c = record { named = named (c .before .before .before .before); shape = shapeSaid (c .shape .given .0 .0); count = c .shape .given .0 .1 .0; offset = c .shape .given .0 .1 .1 .0; is = found-container c }
 
 begin-requires : tie.Need-begin-requires
 begin-requires c κs = search needs
@@ -62,11 +110,7 @@ kept-requires-4 c κs = search needs
 
 returns-6 : tie.Need-returns-6
 unfolding goOn numberOf valuesOf
-returns-6 c =
-    let f = c .before .before .before .before .before .before .before .before .before .before .args .file .now in
-    let r = c .before .before .before .before .before .before .before .before .before .before .args .t1 in
-    let g = next-on f r (c .before .before .before .before .before .before .before .before .if1 .left) (c .before .before .before .before .before .before .before .if2 .left) (c .before .before .before .before .before .before .if3 .left) (c .before .before .before .before .before .if4 .left) (c .before .before .before .before .if5 .left) in
-    c .kept4 .ensures ∙ sym (g ∙ rw (sym (c .before .before .before .width-of .ensures) ∙ c .before .enum-told .given .1))
+returns-6 c = c .kept4 .ensures ∙ sym (sizes (c .before .before .before .before) ∙ rw (sym (c .before .before .before .width-of .ensures) ∙ c .before .enum-told .given .1))
 
 width-of-requires-2 : tie.Need-width-of-requires-2
 width-of-requires-2 c κs = search needs
@@ -83,10 +127,8 @@ kept-requires-5 c κs = search needs
 returns-7 : tie.Need-returns-7
 unfolding goOn withRefs numberOf valuesOf
 returns-7 c =
-    let f = c .before .before .before .before .before .before .before .before .before .before .before .before .before .before .args .file .now in
-    let r = c .before .before .before .before .before .before .before .before .before .before .before .before .before .before .args .t1 in
-    let g = next-on f r (c .before .before .before .before .before .before .before .before .before .before .before .before .if1 .left) (c .before .before .before .before .before .before .before .before .before .before .before .if2 .left) (c .before .before .before .before .before .before .before .before .before .before .if3 .left) (c .before .before .before .before .before .before .before .before .before .if4 .left) (c .before .before .before .before .before .before .before .before .if5 .left) in
-    c .kept5 .ensures ∙ sym (g ∙ rw (sym (c .before .before .before .before .before .before .before .width-of .ensures) ∙ c .before .before .before .before .before .offsets .given .1, sym (c .before .before .before .width-of2 .ensures) ∙ c .before .enum-told2 .given .1))
+    c .kept5 .ensures ∙
+    sym (sizes (c .before .before .before .before .before .before .before .before) ∙ rw (sym (c .before .before .before .before .before .before .before .width-of .ensures) ∙ c .before .before .before .before .before .offsets .given .1, sym (c .before .before .before .width-of2 .ensures) ∙ c .before .enum-told2 .given .1))
 
 sub-top : tie.Need-sub-top
 sub-top c = search needs
@@ -108,12 +150,7 @@ kept-requires-6 c κs = search needs
 
 returns-8 : tie.Need-returns-8
 unfolding innermost numberOf valuesOf
-returns-8 c =
-    let f = c .before .before .before .before .before .before .before .before .before .before .before .before .before .before .before .before .before .before .before .args .file .now in
-    let r = c .before .before .before .before .before .before .before .before .before .before .before .before .before .before .before .before .before .before .before .args .t1 in
-    let l : Layout = record { offsets = c .before .before .before .before .before .before .before .before .before .before .offsets .given .0 .0; refs = c .before .before .before .before .before .before .refs .given .0 .0; count = r .count; table = r .table } in
-    let on = next-due f r (c .before .before .before .before .before .before .before .before .before .before .before .before .before .before .before .before .before .if1 .left) (c .before .before .before .before .before .before .before .before .before .before .before .before .before .before .before .before .if2 .left) (c .before .before .before .before .before .before .before .before .before .before .before .before .before .before .before .if3 .left) (c .before .before .before .before .before .before .before .before .before .before .before .before .before .before .if4 .left) (c .before .before .before .before .before .before .before .before .before .before .before .before .before .if5 .left) l (sym (c .before .before .before .before .before .before .before .before .before .before .before .before .width-of .ensures) ∙ c .before .before .before .before .before .before .before .before .before .before .offsets .given .1) (sym (c .before .before .before .before .before .before .before .before .width-of2 .ensures) ∙ c .before .before .before .before .before .before .refs .given .1) refl refl in
-    c .kept6 .ensures ∙ sym (due-wrong f r l on (sym (c .before .before .before .due-at .ensures) ∙ c .before .enum-told3 .given .1))
+returns-8 c = c .kept6 .ensures ∙ is-wrong (going (c .before .before .before .before .before)) (sym (c .before .before .before .due-at .ensures) ∙ c .before .enum-told3 .given .1)
 
 enum-known-offset : tie.Need-enum-known-offset
 enum-known-offset c = search needs
@@ -122,16 +159,11 @@ handed-requires : tie.Need-handed-requires
 handed-requires c κs = search needs
 
 returns-9 : tie.Need-returns-9
-unfolding innermost stepSaid
-returns-9 c =
-    let f = c .before .before .before .before .before .before .before .before .before .before .before .before .before .before .before .before .before .before .before .before .before .args .file .now in
-    let r = c .before .before .before .before .before .before .before .before .before .before .before .before .before .before .before .before .before .before .before .before .before .args .t1 in
-    let l : Layout = record { offsets = c .before .before .before .before .before .before .before .before .before .before .before .before .offsets .given .0 .0; refs = c .before .before .before .before .before .before .before .before .refs .given .0 .0; count = r .count; table = r .table } in
-    let on = next-due f r (c .before .before .before .before .before .before .before .before .before .before .before .before .before .before .before .before .before .before .before .if1 .left) (c .before .before .before .before .before .before .before .before .before .before .before .before .before .before .before .before .before .before .if2 .left) (c .before .before .before .before .before .before .before .before .before .before .before .before .before .before .before .before .before .if3 .left) (c .before .before .before .before .before .before .before .before .before .before .before .before .before .before .before .before .if4 .left) (c .before .before .before .before .before .before .before .before .before .before .before .before .before .before .before .if5 .left) l (sym (c .before .before .before .before .before .before .before .before .before .before .before .before .before .before .width-of .ensures) ∙ c .before .before .before .before .before .before .before .before .before .before .before .before .offsets .given .1) (sym (c .before .before .before .before .before .before .before .before .before .before .width-of2 .ensures) ∙ c .before .before .before .before .before .before .before .before .refs .given .1) refl refl in
-    rw (c .handed .ensures) (sym (due-last f r l on _ (sym (c .before .before .before .before .before .due-at .ensures) ∙ c .before .before .before .offset .given .1) (omega arith)))
+unfolding stepSaid
+returns-9 c = rw (c .handed .ensures) (is-last (going (c .before .before .before .before .before .before .before)) _ (due-close (c .before .before .before)) (c .before .if6 .taken))
 
-mul-t54 : tie.Need-mul-t54
-mul-t54 c = search needs
+mul-t53 : tie.Need-mul-t53
+mul-t53 c = search needs
 
 element-set-from-self : tie.Need-element-set-from-self
 element-set-from-self c = search needs
@@ -140,13 +172,8 @@ handed-requires-2 : tie.Need-handed-requires-2
 handed-requires-2 c κs = search needs
 
 returns-10 : tie.Need-returns-10
-unfolding innermost stepSaid
-returns-10 c =
-    let f = c .before .before .before .before .before .before .before .before .before .before .before .before .before .before .before .before .before .before .before .before .before .args .file .now in
-    let r = c .before .before .before .before .before .before .before .before .before .before .before .before .before .before .before .before .before .before .before .before .before .args .t1 in
-    let l : Layout = record { offsets = c .before .before .before .before .before .before .before .before .before .before .before .before .offsets .given .0 .0; refs = c .before .before .before .before .before .before .before .before .refs .given .0 .0; count = r .count; table = r .table } in
-    let on = next-due f r (c .before .before .before .before .before .before .before .before .before .before .before .before .before .before .before .before .before .before .before .if1 .left) (c .before .before .before .before .before .before .before .before .before .before .before .before .before .before .before .before .before .before .if2 .left) (c .before .before .before .before .before .before .before .before .before .before .before .before .before .before .before .before .before .if3 .left) (c .before .before .before .before .before .before .before .before .before .before .before .before .before .before .before .before .if4 .left) (c .before .before .before .before .before .before .before .before .before .before .before .before .before .before .before .if5 .left) l (sym (c .before .before .before .before .before .before .before .before .before .before .before .before .before .before .width-of .ensures) ∙ c .before .before .before .before .before .before .before .before .before .before .before .before .offsets .given .1) (sym (c .before .before .before .before .before .before .before .before .before .before .width-of2 .ensures) ∙ c .before .before .before .before .before .before .before .before .refs .given .1) refl refl in
-    rw (c .handed2 .ensures) (sym (due-close f r l on _ (sym (c .before .before .before .before .before .due-at .ensures) ∙ c .before .before .before .offset .given .1) (λ e. c .before .if6 .left (omega arith))))
+unfolding stepSaid
+returns-10 c = rw (c .handed2 .ensures) (closes (going (c .before .before .before .before .before .before .before)) _ (due-close (c .before .before .before)) (c .before .if6 .left))
 
 enum-known-object : tie.Need-enum-known-object
 enum-known-object c = search needs
@@ -157,47 +184,12 @@ look-up-requires c κs = search needs
 enum-known-refusal : tie.Need-enum-known-refusal
 enum-known-refusal c = search needs
 
-ended-requires : tie.Need-ended-requires
-ended-requires c κs = search needs
+refused-requires : tie.Need-refused-requires
+refused-requires c κs = search needs
 
 returns-11 : tie.Need-returns-11
-unfolding innermost arrive lookSaid
-returns-11 c =
-    let f = c .before .before .before .before .before .before .before .before .before .before .before .before .before .before .before .before .before .before .before .before .before .before .before .before .args .file .now in
-    let r = c .before .before .before .before .before .before .before .before .before .before .before .before .before .before .before .before .before .before .before .before .before .before .before .before .args .t1 in
-    let l : Layout = record { offsets = c .before .before .before .before .before .before .before .before .before .before .before .before .before .before .before .offsets .given .0 .0; refs = c .before .before .before .before .before .before .before .before .before .before .before .refs .given .0 .0; count = r .count; table = r .table } in
-    let on = next-due f r (c .before .before .before .before .before .before .before .before .before .before .before .before .before .before .before .before .before .before .before .before .before .before .if1 .left) (c .before .before .before .before .before .before .before .before .before .before .before .before .before .before .before .before .before .before .before .before .before .if2 .left) (c .before .before .before .before .before .before .before .before .before .before .before .before .before .before .before .before .before .before .before .before .if3 .left) (c .before .before .before .before .before .before .before .before .before .before .before .before .before .before .before .before .before .before .before .if4 .left) (c .before .before .before .before .before .before .before .before .before .before .before .before .before .before .before .before .before .before .if5 .left) l (sym (c .before .before .before .before .before .before .before .before .before .before .before .before .before .before .before .before .before .width-of .ensures) ∙ c .before .before .before .before .before .before .before .before .before .before .before .before .before .before .before .offsets .given .1) (sym (c .before .before .before .before .before .before .before .before .before .before .before .before .before .width-of2 .ensures) ∙ c .before .before .before .before .before .before .before .before .before .before .before .refs .given .1) refl refl in
-    c .ended .ensures ∙ sym (due-member f r l on (c .before .before .before .before .before .before .object .given .0 .0) (sym (c .before .before .before .before .before .before .before .before .due-at .ensures) ∙ c .before .before .before .before .before .before .object .given .1) _ (sym (c .before .before .before .before .look-up .ensures .0) ∙ ap lookSaid (c .before .before .refusal .given .1)))
-
-enum-told-4 : tie.Need-enum-told-4
-enum-told-4 c = search needs
-
-kept-requires-7 : tie.Need-kept-requires-7
-kept-requires-7 c κs = search needs
-
-returns-12 : tie.Need-returns-12
-unfolding innermost arrive lookSaid numberOf valuesOf
-returns-12 c =
-    let f = c .before .before .before .before .before .before .before .before .before .before .before .before .before .before .before .before .before .before .before .before .before .before .before .args .file .now in
-    let r = c .before .before .before .before .before .before .before .before .before .before .before .before .before .before .before .before .before .before .before .before .before .before .before .args .t1 in
-    let l : Layout = record { offsets = c .before .before .before .before .before .before .before .before .before .before .before .before .before .before .offsets .given .0 .0; refs = c .before .before .before .before .before .before .before .before .before .before .refs .given .0 .0; count = r .count; table = r .table } in
-    let on = next-due f r (c .before .before .before .before .before .before .before .before .before .before .before .before .before .before .before .before .before .before .before .before .before .if1 .left) (c .before .before .before .before .before .before .before .before .before .before .before .before .before .before .before .before .before .before .before .before .if2 .left) (c .before .before .before .before .before .before .before .before .before .before .before .before .before .before .before .before .before .before .before .if3 .left) (c .before .before .before .before .before .before .before .before .before .before .before .before .before .before .before .before .before .before .if4 .left) (c .before .before .before .before .before .before .before .before .before .before .before .before .before .before .before .before .before .if5 .left) l (sym (c .before .before .before .before .before .before .before .before .before .before .before .before .before .before .before .before .width-of .ensures) ∙ c .before .before .before .before .before .before .before .before .before .before .before .before .before .before .offsets .given .1) (sym (c .before .before .before .before .before .before .before .before .before .before .before .before .width-of2 .ensures) ∙ c .before .before .before .before .before .before .before .before .before .before .refs .given .1) refl refl in
-    c .kept7 .ensures ∙ sym (due-member f r l on (c .before .before .before .before .before .object .given .0 .0) (sym (c .before .before .before .before .before .before .before .due-at .ensures) ∙ c .before .before .before .before .before .object .given .1) _ (sym (c .before .before .before .look-up .ensures .0) ∙ ap lookSaid (c .before .enum-told4 .given .1)))
-
-enum-known-refusal-2 : tie.Need-enum-known-refusal-2
-enum-known-refusal-2 c = search needs
-
-ended-requires-2 : tie.Need-ended-requires-2
-ended-requires-2 c κs = search needs
-
-returns-13 : tie.Need-returns-13
-unfolding innermost arrive lookSaid
-returns-13 c =
-    let f = c .before .before .before .before .before .before .before .before .before .before .before .before .before .before .before .before .before .before .before .before .before .before .before .before .args .file .now in
-    let r = c .before .before .before .before .before .before .before .before .before .before .before .before .before .before .before .before .before .before .before .before .before .before .before .before .args .t1 in
-    let l : Layout = record { offsets = c .before .before .before .before .before .before .before .before .before .before .before .before .before .before .before .offsets .given .0 .0; refs = c .before .before .before .before .before .before .before .before .before .before .before .refs .given .0 .0; count = r .count; table = r .table } in
-    let on = next-due f r (c .before .before .before .before .before .before .before .before .before .before .before .before .before .before .before .before .before .before .before .before .before .before .if1 .left) (c .before .before .before .before .before .before .before .before .before .before .before .before .before .before .before .before .before .before .before .before .before .if2 .left) (c .before .before .before .before .before .before .before .before .before .before .before .before .before .before .before .before .before .before .before .before .if3 .left) (c .before .before .before .before .before .before .before .before .before .before .before .before .before .before .before .before .before .before .before .if4 .left) (c .before .before .before .before .before .before .before .before .before .before .before .before .before .before .before .before .before .before .if5 .left) l (sym (c .before .before .before .before .before .before .before .before .before .before .before .before .before .before .before .before .before .width-of .ensures) ∙ c .before .before .before .before .before .before .before .before .before .before .before .before .before .before .before .offsets .given .1) (sym (c .before .before .before .before .before .before .before .before .before .before .before .before .before .width-of2 .ensures) ∙ c .before .before .before .before .before .before .before .before .before .before .before .refs .given .1) refl refl in
-    c .ended2 .ensures ∙ sym (due-member f r l on (c .before .before .before .before .before .before .object .given .0 .0) (sym (c .before .before .before .before .before .before .before .before .due-at .ensures) ∙ c .before .before .before .before .before .before .object .given .1) _ (sym (c .before .before .before .before .look-up .ensures .0) ∙ ap lookSaid (c .before .before .refusal2 .given .1)))
+unfolding lookSaid
+returns-11 c = c .refused .ensures ∙ is-refused (named (c .before .before .before .before .before .before)) _ _ _ (sym (c .before .before .before .before .look-up .ensures .0) ∙ ap lookSaid (c .before .before .refusal .given .1))
 
 enum-known-event : tie.Need-enum-known-event
 enum-known-event c = search needs
@@ -210,11 +202,7 @@ element-copy-out-self c = search needs
 
 add-self : tie.Need-add-self
 unfolding innermost
-add-self c =
-    let f = c .before .before .before .before .before .before .before .before .before .before .before .before .before .before .before .before .before .before .before .before .before .before .before .args .file .now in
-    let r = c .before .before .before .before .before .before .before .before .before .before .before .before .before .before .before .before .before .before .before .before .before .before .before .args .t1 in
-    let k : innermost r .position + 1 < 2 ^ 32 = counted f (c .before .before .before .before .before .before .before .before .before .before .before .before .before .before .before .before .before .before .before .if3 .left) _ _ _ (sym (c .before .before .before .before .before .before .before .due-at .ensures) ∙ c .before .before .before .before .before .object .given .1) in
-    omega (arith, k)
+add-self c = omega (arith, counts (named (c .before .before .before .before .before)))
 
 mul-self-2 : tie.Need-mul-self-2
 mul-self-2 c = search needs
@@ -225,51 +213,32 @@ way-write-given-self c = search needs
 handed-requires-3 : tie.Need-handed-requires-3
 handed-requires-3 c κs = search needs
 
-returns-14 : tie.Need-returns-14
+returns-12 : tie.Need-returns-12
 unfolding innermost nextIn stepSaid lookSaid
-returns-14 c =
-    let f = c .before .before .before .before .before .before .before .before .before .before .before .before .before .before .before .before .before .before .before .before .before .before .before .before .before .args .file .now in
-    let r = c .before .before .before .before .before .before .before .before .before .before .before .before .before .before .before .before .before .before .before .before .before .before .before .before .before .args .t1 in
-    let l : Layout = record { offsets = c .before .before .before .before .before .before .before .before .before .before .before .before .before .before .before .before .offsets .given .0 .0; refs = c .before .before .before .before .before .before .before .before .before .before .before .before .refs .given .0 .0; count = r .count; table = r .table } in
-    let on = next-due f r (c .before .before .before .before .before .before .before .before .before .before .before .before .before .before .before .before .before .before .before .before .before .before .before .if1 .left) (c .before .before .before .before .before .before .before .before .before .before .before .before .before .before .before .before .before .before .before .before .before .before .if2 .left) (c .before .before .before .before .before .before .before .before .before .before .before .before .before .before .before .before .before .before .before .before .before .if3 .left) (c .before .before .before .before .before .before .before .before .before .before .before .before .before .before .before .before .before .before .before .before .if4 .left) (c .before .before .before .before .before .before .before .before .before .before .before .before .before .before .before .before .before .before .before .if5 .left) l (sym (c .before .before .before .before .before .before .before .before .before .before .before .before .before .before .before .before .before .before .width-of .ensures) ∙ c .before .before .before .before .before .before .before .before .before .before .before .before .before .before .before .before .offsets .given .1) (sym (c .before .before .before .before .before .before .before .before .before .before .before .before .before .before .width-of2 .ensures) ∙ c .before .before .before .before .before .before .before .before .before .before .before .before .refs .given .1) refl refl in
-    rw (c .handed3 .ensures) (sym (due-member f r l on (c .before .before .before .before .before .before .before .object .given .0 .0) (sym (c .before .before .before .before .before .before .before .before .before .due-at .ensures) ∙ c .before .before .before .before .before .before .before .object .given .1) _ (sym (c .before .before .before .before .before .look-up .ensures .0) ∙ ap lookSaid (c .before .before .before .event .given .1)) ∙ passes r (c .before .before .before .before .before .before .before .before .before .before .before .before .before .before .before .before .before .before .before .before .before .before .if2 .left) (c .before .before .before .before .before .before .before .object .given .0 .0) _ _))
+returns-12 c = rw (c .handed3 .ensures) (passes (named (c .before .before .before .before .before .before .before)) _ _ (sym (c .before .before .before .before .before .look-up .ensures .0) ∙ ap lookSaid (c .before .before .before .event .given .1)))
 
 enum-known-shape : tie.Need-enum-known-shape
 enum-known-shape c = search needs
 
 cast-number : tie.Need-cast-number
-unfolding lookSaid
-cast-number c =
-    let f = c .before .before .before .before .before .before .before .before .before .before .before .before .before .before .before .before .before .before .before .before .before .before .before .args .file .now in
-    let r = c .before .before .before .before .before .before .before .before .before .before .before .before .before .before .before .before .before .before .before .before .before .before .before .args .t1 in
-    omega (arith, numbered f (record { offsets = c .before .before .before .before .before .before .before .before .before .before .before .before .before .before .offsets .given .0 .0; refs = c .before .before .before .before .before .before .before .before .before .before .refs .given .0 .0; count = r .count; table = r .table }) (c .before .before .before .before .before .object .given .0 .0) _ _ _ (sym (c .before .before .before .look-up .ensures .0) ∙ ap lookSaid (c .before .shape .given .1)))
+cast-number c = omega (arith, short-number (holding (c .before)))
 
 is-open-requires : tie.Need-is-open-requires
 is-open-requires c κs = search needs
 
-ended-requires-3 : tie.Need-ended-requires-3
-ended-requires-3 c κs = search needs
+ended-requires : tie.Need-ended-requires
+ended-requires c κs = search needs
 
-returns-15 : tie.Need-returns-15
-unfolding innermost openOf lookSaid numberOf valuesOf
-returns-15 c =
-    let f = c .before .before .before .before .before .before .before .before .before .before .before .before .before .before .before .before .before .before .before .before .before .before .before .before .before .before .before .args .file .now in
-    let r = c .before .before .before .before .before .before .before .before .before .before .before .before .before .before .before .before .before .before .before .before .before .before .before .before .before .before .before .args .t1 in
-    let l : Layout = record { offsets = c .before .before .before .before .before .before .before .before .before .before .before .before .before .before .before .before .before .before .offsets .given .0 .0; refs = c .before .before .before .before .before .before .before .before .before .before .before .before .before .before .refs .given .0 .0; count = r .count; table = r .table } in
-    let on = next-due f r (c .before .before .before .before .before .before .before .before .before .before .before .before .before .before .before .before .before .before .before .before .before .before .before .before .before .if1 .left) (c .before .before .before .before .before .before .before .before .before .before .before .before .before .before .before .before .before .before .before .before .before .before .before .before .if2 .left) (c .before .before .before .before .before .before .before .before .before .before .before .before .before .before .before .before .before .before .before .before .before .before .before .if3 .left) (c .before .before .before .before .before .before .before .before .before .before .before .before .before .before .before .before .before .before .before .before .before .before .if4 .left) (c .before .before .before .before .before .before .before .before .before .before .before .before .before .before .before .before .before .before .before .before .before .if5 .left) l (sym (c .before .before .before .before .before .before .before .before .before .before .before .before .before .before .before .before .before .before .before .before .width-of .ensures) ∙ c .before .before .before .before .before .before .before .before .before .before .before .before .before .before .before .before .before .before .offsets .given .1) (sym (c .before .before .before .before .before .before .before .before .before .before .before .before .before .before .before .before .width-of2 .ensures) ∙ c .before .before .before .before .before .before .before .before .before .before .before .before .before .before .refs .given .1) refl refl in
-    c .ended3 .ensures ∙ sym (due-member f r l on (c .before .before .before .before .before .before .before .before .before .object .given .0 .0) (sym (c .before .before .before .before .before .before .before .before .before .before .before .due-at .ensures) ∙ c .before .before .before .before .before .before .before .before .before .object .given .1) _ (sym (c .before .before .before .before .before .before .before .look-up .ensures .0) ∙ ap lookSaid (c .before .before .before .before .before .shape .given .1)) ∙ again r (c .before .before .before .before .before .before .before .before .before .before .before .before .before .before .before .before .before .before .before .before .before .before .before .before .if2 .left) (c .before .before .before .before .before .before .before .before .before .object .given .0 .0) _ _ _ (sym (c .before .before .is-open .ensures) ∙ c .before .if7 .taken))
+returns-13 : tie.Need-returns-13
+unfolding openOf numberOf valuesOf
+returns-13 c = c .ended .ensures ∙ is-again (holding (c .before .before .before .before .before)) (sym (c .before .before .is-open .ensures) ∙ c .before .if7 .taken)
 
-ended-requires-4 : tie.Need-ended-requires-4
-ended-requires-4 c κs = search needs
+ended-requires-2 : tie.Need-ended-requires-2
+ended-requires-2 c κs = search needs
 
-returns-16 : tie.Need-returns-16
-unfolding innermost openOf lookSaid numberOf valuesOf
-returns-16 c =
-    let f = c .before .before .before .before .before .before .before .before .before .before .before .before .before .before .before .before .before .before .before .before .before .before .before .before .before .before .before .before .args .file .now in
-    let r = c .before .before .before .before .before .before .before .before .before .before .before .before .before .before .before .before .before .before .before .before .before .before .before .before .before .before .before .before .args .t1 in
-    let l : Layout = record { offsets = c .before .before .before .before .before .before .before .before .before .before .before .before .before .before .before .before .before .before .before .offsets .given .0 .0; refs = c .before .before .before .before .before .before .before .before .before .before .before .before .before .before .before .refs .given .0 .0; count = r .count; table = r .table } in
-    let on = next-due f r (c .before .before .before .before .before .before .before .before .before .before .before .before .before .before .before .before .before .before .before .before .before .before .before .before .before .before .if1 .left) (c .before .before .before .before .before .before .before .before .before .before .before .before .before .before .before .before .before .before .before .before .before .before .before .before .before .if2 .left) (c .before .before .before .before .before .before .before .before .before .before .before .before .before .before .before .before .before .before .before .before .before .before .before .before .if3 .left) (c .before .before .before .before .before .before .before .before .before .before .before .before .before .before .before .before .before .before .before .before .before .before .before .if4 .left) (c .before .before .before .before .before .before .before .before .before .before .before .before .before .before .before .before .before .before .before .before .before .before .if5 .left) l (sym (c .before .before .before .before .before .before .before .before .before .before .before .before .before .before .before .before .before .before .before .before .before .width-of .ensures) ∙ c .before .before .before .before .before .before .before .before .before .before .before .before .before .before .before .before .before .before .before .offsets .given .1) (sym (c .before .before .before .before .before .before .before .before .before .before .before .before .before .before .before .before .before .width-of2 .ensures) ∙ c .before .before .before .before .before .before .before .before .before .before .before .before .before .before .before .refs .given .1) refl refl in
-    c .ended4 .ensures ∙ sym (due-member f r l on (c .before .before .before .before .before .before .before .before .before .before .object .given .0 .0) (sym (c .before .before .before .before .before .before .before .before .before .before .before .before .due-at .ensures) ∙ c .before .before .before .before .before .before .before .before .before .before .object .given .1) _ (sym (c .before .before .before .before .before .before .before .before .look-up .ensures .0) ∙ ap lookSaid (c .before .before .before .before .before .before .shape .given .1)) ∙ deep r (c .before .before .before .before .before .before .before .before .before .before .before .before .before .before .before .before .before .before .before .before .before .before .before .before .before .if2 .left) (c .before .before .before .before .before .before .before .before .before .before .object .given .0 .0) _ _ _ (sym (c .before .before .before .is-open .ensures) ∙ c .before .before .if7 .left) (c .before .if8 .taken))
+returns-14 : tie.Need-returns-14
+unfolding openOf numberOf valuesOf
+returns-14 c = c .ended2 .ensures ∙ is-deep (holding (c .before .before .before .before .before .before)) (sym (c .before .before .before .is-open .ensures) ∙ c .before .before .if7 .left) (c .before .if8 .taken)
 
 mul-self-3 : tie.Need-mul-self-3
 mul-self-3 c = search needs
@@ -279,11 +248,7 @@ element-copy-out-self-2 c = search needs
 
 add-self-2 : tie.Need-add-self-2
 unfolding innermost
-add-self-2 c =
-    let f = c .before .before .before .before .before .before .before .before .before .before .before .before .before .before .before .before .before .before .before .before .before .before .before .before .before .before .before .args .file .now in
-    let r = c .before .before .before .before .before .before .before .before .before .before .before .before .before .before .before .before .before .before .before .before .before .before .before .before .before .before .before .args .t1 in
-    let k : innermost r .position + 1 < 2 ^ 32 = counted f (c .before .before .before .before .before .before .before .before .before .before .before .before .before .before .before .before .before .before .before .before .before .before .before .if3 .left) _ _ _ (sym (c .before .before .before .before .before .before .before .before .before .before .before .due-at .ensures) ∙ c .before .before .before .before .before .before .before .before .before .object .given .1) in
-    omega (arith, k)
+add-self-2 c = omega (arith, counts (named (c .before .before .before .before .before .before .before .before .before)))
 
 mul-self-4 : tie.Need-mul-self-4
 mul-self-4 c = search needs
@@ -291,15 +256,11 @@ mul-self-4 c = search needs
 way-write-given-self-2 : tie.Need-way-write-given-self-2
 way-write-given-self-2 c = search needs
 
-cast-t82 : tie.Need-cast-t82
-unfolding lookSaid
-cast-t82 c =
-    let f = c .before .before .before .before .before .before .before .before .before .before .before .before .before .before .before .before .before .before .before .before .before .before .before .before .before .before .before .before .args .file .now in
-    let r = c .before .before .before .before .before .before .before .before .before .before .before .before .before .before .before .before .before .before .before .before .before .before .before .before .before .before .before .before .args .t1 in
-    omega (arith, measured f (record { offsets = c .before .before .before .before .before .before .before .before .before .before .before .before .before .before .before .before .before .before .before .offsets .given .0 .0; refs = c .before .before .before .before .before .before .before .before .before .before .before .before .before .before .before .refs .given .0 .0; count = r .count; table = r .table }) (c .before .before .before .before .before .before .before .before .before .before .object .given .0 .0) _ _ _ (sym (c .before .before .before .before .before .before .before .before .look-up .ensures .0) ∙ ap lookSaid (c .before .before .before .before .before .before .shape .given .1)))
+cast-t80 : tie.Need-cast-t80
+cast-t80 c = omega (arith, short-count (holding (c .before .before .before .before .before .before)))
 
-mul-t79 : tie.Need-mul-t79
-mul-t79 c = search needs
+mul-t77 : tie.Need-mul-t77
+mul-t77 c = search needs
 
 element-set-from-self-2 : tie.Need-element-set-from-self-2
 element-set-from-self-2 c = search needs
@@ -313,14 +274,11 @@ start-of-requires c κs = search needs
 handed-requires-4 : tie.Need-handed-requires-4
 handed-requires-4 c κs = search needs
 
-returns-17 : tie.Need-returns-17
-unfolding innermost nextIn openOf stepSaid lookSaid
-returns-17 c =
-    let f = c .before .before .before .before .before .before .before .before .before .before .before .before .before .before .before .before .before .before .before .before .before .before .before .before .before .before .before .before .before .before .args .file .now in
-    let r = c .before .before .before .before .before .before .before .before .before .before .before .before .before .before .before .before .before .before .before .before .before .before .before .before .before .before .before .before .before .before .args .t1 in
-    let l : Layout = record { offsets = c .before .before .before .before .before .before .before .before .before .before .before .before .before .before .before .before .before .before .before .before .before .offsets .given .0 .0; refs = c .before .before .before .before .before .before .before .before .before .before .before .before .before .before .before .before .before .refs .given .0 .0; count = r .count; table = r .table } in
-    let on = next-due f r (c .before .before .before .before .before .before .before .before .before .before .before .before .before .before .before .before .before .before .before .before .before .before .before .before .before .before .before .before .if1 .left) (c .before .before .before .before .before .before .before .before .before .before .before .before .before .before .before .before .before .before .before .before .before .before .before .before .before .before .before .if2 .left) (c .before .before .before .before .before .before .before .before .before .before .before .before .before .before .before .before .before .before .before .before .before .before .before .before .before .before .if3 .left) (c .before .before .before .before .before .before .before .before .before .before .before .before .before .before .before .before .before .before .before .before .before .before .before .before .before .if4 .left) (c .before .before .before .before .before .before .before .before .before .before .before .before .before .before .before .before .before .before .before .before .before .before .before .before .if5 .left) l (sym (c .before .before .before .before .before .before .before .before .before .before .before .before .before .before .before .before .before .before .before .before .before .before .before .width-of .ensures) ∙ c .before .before .before .before .before .before .before .before .before .before .before .before .before .before .before .before .before .before .before .before .before .offsets .given .1) (sym (c .before .before .before .before .before .before .before .before .before .before .before .before .before .before .before .before .before .before .before .width-of2 .ensures) ∙ c .before .before .before .before .before .before .before .before .before .before .before .before .before .before .before .before .before .refs .given .1) refl refl in
-    rw (c .handed4 .ensures, c .before .start-of .ensures) (sym (due-member f r l on (c .before .before .before .before .before .before .before .before .before .before .before .before .object .given .0 .0) (sym (c .before .before .before .before .before .before .before .before .before .before .before .before .before .before .due-at .ensures) ∙ c .before .before .before .before .before .before .before .before .before .before .before .before .object .given .1) _ (sym (c .before .before .before .before .before .before .before .before .before .before .look-up .ensures .0) ∙ ap lookSaid (c .before .before .before .before .before .before .before .before .shape .given .1)) ∙ enters r (c .before .before .before .before .before .before .before .before .before .before .before .before .before .before .before .before .before .before .before .before .before .before .before .before .before .before .before .if2 .left) (c .before .before .before .before .before .before .before .before .before .before .before .before .object .given .0 .0) _ _ _ (sym (c .before .before .before .before .before .is-open .ensures) ∙ c .before .before .before .before .if7 .left) (c .before .before .before .if8 .left)))
+returns-15 : tie.Need-returns-15
+unfolding innermost nextIn openOf stepSaid
+returns-15 c =
+    rw (c .handed4 .ensures, c .before .start-of .ensures)
+    (enters (holding (c .before .before .before .before .before .before .before .before)) (sym (c .before .before .before .before .before .is-open .ensures) ∙ c .before .before .before .before .if7 .left) (c .before .before .before .if8 .left))
 
 pub next-spec : {M : Type 1} → statement M
 next-spec =
@@ -356,21 +314,15 @@ next-spec =
     enum-known-offset
     handed-requires
     returns-9
-    mul-t54
+    mul-t53
     element-set-from-self
     handed-requires-2
     returns-10
     enum-known-object
     look-up-requires
     enum-known-refusal
-    ended-requires
+    refused-requires
     returns-11
-    enum-told-4
-    kept-requires-7
-    returns-12
-    enum-known-refusal-2
-    ended-requires-2
-    returns-13
     enum-known-event
     mul-self
     element-copy-out-self
@@ -378,23 +330,23 @@ next-spec =
     mul-self-2
     way-write-given-self
     handed-requires-3
-    returns-14
+    returns-12
     enum-known-shape
     cast-number
     is-open-requires
-    ended-requires-3
-    returns-15
-    ended-requires-4
-    returns-16
+    ended-requires
+    returns-13
+    ended-requires-2
+    returns-14
     mul-self-3
     element-copy-out-self-2
     add-self-2
     mul-self-4
     way-write-given-self-2
-    cast-t82
-    mul-t79
+    cast-t80
+    mul-t77
     element-set-from-self-2
     add-self-3
     start-of-requires
     handed-requires-4
-    returns-17)
+    returns-15)

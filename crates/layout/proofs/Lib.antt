@@ -1,0 +1,5 @@
+pub mod Counts
+pub mod Looks
+pub mod Magic
+pub mod Numbers
+pub mod Short

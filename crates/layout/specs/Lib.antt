@@ -1,0 +1,13 @@
+pub mod Bytes
+pub mod FoundLaws
+pub mod Frame
+pub mod Layout
+pub mod LookLaws
+pub mod Looked
+pub mod References
+pub mod ReferencesLaws
+pub mod Said
+pub mod SaidLaws
+pub mod TestLaws
+pub mod Trailer
+pub mod TrailerLaws

@@ -1,0 +1,86 @@
+// Looking an object up by its number.
+use crate::layout::Entry;
+use crate::layout::Layout;
+use crate::layout::entry_at;
+use crate::refusal::Refusal;
+use event::Event;
+use event::Length;
+use object::read::Object;
+use object::read::Part;
+use object::read::object_at;
+ghost use mathlib.Core.Path.{_≡_};
+ghost use Rattle.layout.specs.Layout.{lookOf};
+ghost use Rattle.layout.specs.Looked.{withPlace, startOf};
+ghost use Rattle.layout.specs.Bytes.{lookedBytes};
+ghost use Rattle.layout.specs.Said.{Same, lookSaid, lookBytes, shapeSaid};
+
+// Where the bytes of a record stand: in the file as they are, in the file as UTF-16, or nowhere, since it has none; or the file doesn't give it.
+pub enum Asked {
+    InFile(Part),
+    InUtf16(Part),
+    NoBytes,
+    Denied(Refusal),
+}
+
+pub enum Shape {
+    Array,
+    Dictionary,
+}
+
+// What an object is: refused, with the place; a scalar with where its bytes stand, or a container with its length, and its offset.
+pub enum Look {
+    Refused(Refusal, u64),
+    Scalar(Event, Asked, u64),
+    Container(Shape, u64, u64),
+}
+
+// The object of a number: its entry of the offset table, then what stands there. The place is the last offset sought, which a refusal
+// carries where nothing is sought.
+pub fn look_up(file: &[u8], layout: Layout, object: u64, place: u64) -> Look
+    ensures { λ r. ⌜ lookSaid r ≡ withPlace place (lookOf (now (file .entry)) layout object) ⌝ }
+    ensures { λ r. ⌜ lookBytes r ≡ lookedBytes (now (file .entry)) (lookOf (now (file .entry)) layout object) ⌝ }
+{
+    if layout.count as u64 <= object {
+        return Look::Refused(Refusal::ObjectReferenceTooLarge, place);
+    }
+    let Entry::Of(offset) = entry_at(file, layout, object as u32) else {
+        return Look::Refused(Refusal::WrongFile, 0);
+    };
+    let refs = layout.refs;
+    match object_at(file, refs, offset as usize) {
+        Object::Outside => Look::Refused(Refusal::ObjectOffsetTooLarge, place),
+        Object::Refused(refusal) => Look::Refused(refusal_of(refusal), offset),
+        Object::Scalar(event) => Look::Scalar(event, Asked::NoBytes, offset),
+        Object::Data(part) => Look::Scalar(Event::Data, Asked::InFile(part), offset),
+        Object::Utf8(part) => Look::Scalar(Event::String, Asked::InFile(part), offset),
+        Object::Utf16(part) => Look::Scalar(Event::String, Asked::InUtf16(part), offset),
+        Object::Array(length) => Look::Container(Shape::Array, length, offset),
+        Object::Dictionary(length) => Look::Container(Shape::Dictionary, length, offset),
+    }
+}
+
+// An object's refusal is the reader's.
+fn refusal_of(refusal: object::read::Refusal) -> Refusal
+    ensures { λ r. ⌜ Same refusal r ⌝ }
+{
+    match refusal {
+        object::read::Refusal::EndOfInput => Refusal::EndOfInput,
+        object::read::Refusal::ObjectOffsetTooLarge => Refusal::ObjectOffsetTooLarge,
+        object::read::Refusal::NullObjectUnimplemented => Refusal::NullObjectUnimplemented,
+        object::read::Refusal::FillObjectUnimplemented => Refusal::FillObjectUnimplemented,
+        object::read::Refusal::UnknownObjectType(marker) => Refusal::UnknownObjectType(marker),
+        object::read::Refusal::IntegerOutOfRange => Refusal::IntegerOutOfRange,
+        object::read::Refusal::InvalidUtf8String => Refusal::InvalidUtf8String,
+        object::read::Refusal::InvalidUtf16String => Refusal::InvalidUtf16String,
+    }
+}
+
+// The event that a container begins with.
+pub fn start_of(shape: Shape, length: u64) -> Event
+    ensures { λ r. ⌜ r ≡ startOf (shapeSaid shape) length ⌝ }
+{
+    match shape {
+        Shape::Array => Event::StartArray(Length::Given(length)),
+        Shape::Dictionary => Event::StartDictionary(Length::Given(length)),
+    }
+}
