@@ -50,6 +50,8 @@ use Rattle.number.proofs.be.write_be.Kinds as write-be-kinds
 use Rattle.number.proofs.be.write_be.Reads as write-be-reads
 use Rattle.number.proofs.be.write_halves.Kinds as write-halves-kinds
 use Rattle.number.proofs.be.write_halves.Reads as write-halves-reads
+use Rattle.number.proofs.copy.write_bytes.Kinds as write-bytes-kinds
+use Rattle.number.proofs.copy.write_bytes.Reads as write-bytes-reads
 use Rattle.number.proofs.signed.signed_of.Kinds as signed-of-kinds
 use Rattle.number.proofs.signed.signed_of.Reads as signed-of-reads
 use Rattle.number.proofs.signed.bits_of.Kinds as bits-of-kinds
@@ -142,6 +144,9 @@ read-halves-one κs a x y e f p q = (p ∙ sym q, refl)
 
 write-be-one : One 1 write-be-kinds.ps write-be-kinds.r write-be-reads.Post (List ℕ) (λ κs e. now (e .0))
 write-be-one κs a x y e f p q = (refl, p ∙ sym q)
+
+write-bytes-one : One 2 write-bytes-kinds.ps write-bytes-kinds.r write-bytes-reads.Post (List ℕ) (λ κs e. now (e .0))
+write-bytes-one κs a x y e f p q = (refl, p ∙ sym q)
 
 write-halves-one : One 1 write-halves-kinds.ps write-halves-kinds.r write-halves-reads.Post (List ℕ) (λ κs e. now (e .0))
 write-halves-one κs a x y e f p q = (refl, p ∙ sym q)

@@ -1,23 +1,25 @@
 -- The state after each answer, whatever file is lent to whatever state: what docs/FORMAT.md, N, says that a refusal leaves.
 use mathlib.Core.Bool.{Bool, true, false, cond, not, _&&_}
 use mathlib.Core.List.{List, []}
-use mathlib.Core.Logic.{inl, inr}
 use mathlib.Core.Path.{_≡_, refl, ap}
 use Prim.Native.Nat.{ℕ, suc, _+_, _*_, _≤_, _<_}
 use native.Mathlib.Numerals.{add-one}
 use native.Mathlib.Omega.{arith}
-use borrow.Author.Tests.{leb-true, eqb-true, ltb-true, ltb-false, lt-ltb, le-ltb, ne-eqb}
+use borrow.Author.Tests.{leb-true, eqb-true, ltb-true, ltb-false, lt-ltb, le-ltb, ne-eqb, eqb-false}
 use lib.Dec.{ltb, leb, eqb}
 use lib.ListN.{length, getD}
+use Rattle.number.specs.Among.{among, among-more, among-not}
 use Rattle.number.specs.Width.{bytesIn, widthOf}
 use Rattle.number.specs.declared.width.Size.{Size}
 use Rattle.number.specs.declared.width.Size.the-variants.{Allowed, NotAllowed}
 use Rattle.number.specs.declared.width.Width.{Width}
 use Rattle.event.specs.Format.{magic}
 use Rattle.object.specs.Content.{trailerAt}
-use Rattle.layout.specs.FoundLaws.{Faults}
+use Rattle.object.specs.Refusal.{objectRefusals}
+use Rattle.layout.specs.Refusals.{lookRefusals, Faults}
+use Rattle.reader.specs.Refusals.{endRefusals}
 use Rattle.layout.specs.LookLaws.{Looked-right, look-right, Laid, never-missing}
-use Rattle.layout.specs.TestLaws.{by-test}
+use Rattle.number.specs.Either.{either}
 use Rattle.layout.specs.Layout.{lookOf, sourceOf}
 use Rattle.layout.specs.Looked.{Looked, barred, missing, faulty, scalar, container, Shape}
 use Rattle.layout.specs.Trailer.{Trailer, keeps, lays, begins, eightAt, tableOf, refSizeOf, sizesOf, trailerOf}
@@ -50,10 +52,12 @@ After file r s ended = (s ≡ r) × Done r
 After file r s (refused number values place) = s ≡ cond (unchanged file r number) r endedReader
 
 module _ (file : List ℕ) (r : Reader) where
-  pub six-ends : (number : ℕ) → 6 ≤ number → number ≤ 15 → unchanged file r number ≡ false
-  unfolding unchanged
-  six-ends number h k =
-      rw (ne-eqb number 1 (λ e. omega arith), ne-eqb number 2 (λ e. omega arith), ne-eqb number 3 (λ e. omega arith), ne-eqb number 4 (λ e. omega arith), ne-eqb number 5 (λ e. omega arith), ne-eqb number 16 (λ e. omega arith), ne-eqb number 17 (λ e. omega arith))
+  -- the refusals of an object and of a reference, 14 and 15 end, but for 2
+  pub listed-ends : (number : ℕ) → among endRefusals number ≡ true → (number ≡ 2 → ⊥) → unchanged file r number ≡ false
+  unfolding unchanged endRefusals lookRefusals objectRefusals among
+  listed-ends number h k =
+      let no : (m : ℕ) → among endRefusals m ≡ false → eqb number m ≡ false = λ m n. ne-eqb number m (among-not endRefusals number m h n) in
+      rw (no 1 refl, ne-eqb number 2 k, no 3 refl, no 4 refl, no 5 refl, no 16 refl, no 17 refl)
 
   abbrev Leaves : Step → Type 0
   Leaves x = After file r (x .state) (x .answer)
@@ -65,13 +69,16 @@ module _ (file : List ℕ) (r : Reader) where
   -- not in the trailer: the reader isn't fresh, or there is room for a trailer
   module _ (inside : (r .fresh && ltb (length file) 32) ≡ false) where
     faults-end : (number : ℕ) → Faults number → unchanged file r number ≡ false
-    unfolding unchanged
-    faults-end number (inl e) = rw e inside
-    faults-end number (inr h) = six-ends number (h .0) (omega arith)
+    unfolding unchanged endRefusals
+    faults-end number h = go (eqb number 2) refl
+      where
+        go : (b : Bool) → eqb number 2 ≡ b → unchanged file r number ≡ false
+        go true e = rw (eqb-true number 2 e) inside
+        go false e = listed-ends number (among-more 14 _ number (among-more 15 _ number h)) (eqb-false number 2 e)
 
     enter-leaves : (s : Reader) (n : ℕ) (shape : Shape) (k offset : ℕ) → Leaves (enter s n shape k offset)
     unfolding enter unchanged
-    enter-leaves s n shape k offset = by-test Leaves (memberOf (openOf s) n) _ _ (λ e. refl) (λ e. by-test Leaves (leb maxOpen (s .depth)) _ _ (λ e. refl) (λ e. tt))
+    enter-leaves s n shape k offset = either Leaves (memberOf (openOf s) n) _ _ (λ e. refl) (λ e. either Leaves (leb maxOpen (s .depth)) _ _ (λ e. refl) (λ e. tt))
 
     arrive-leaves : (s : Reader) (l : Layout) (n : ℕ) (x : Looked) → Looked-right file l n x → (x ≡ missing → s ≡ r) → Leaves (arrive s n x)
     unfolding arrive unchanged
@@ -118,12 +125,12 @@ module _ (file : List ℕ) (r : Reader) where
 
       table-leaves : (offsets refs : Width) → Leaves (begin file r (tableOf file offsets refs))
       unfolding tableOf begin unchanged
-      table-leaves offsets refs = by-test Begins (leb (eightAt file 24 + eightAt file 8 * bytesIn offsets) (trailerAt file)) _ _ (λ e. laid-leaves _ (eightAt file 16) (leb-true _ _ e)) (λ e. refl)
+      table-leaves offsets refs = either Begins (leb (eightAt file 24 + eightAt file 8 * bytesIn offsets) (trailerAt file)) _ _ (λ e. laid-leaves _ (eightAt file 16) (leb-true _ _ e)) (λ e. refl)
 
       ref-leaves : (offsets : Width) (s : Size) → Leaves (begin file r (refSizeOf file offsets s))
       unfolding refSizeOf begin unchanged
       ref-leaves offsets (Allowed refs) = table-leaves offsets refs
-      ref-leaves offsets NotAllowed = by-test Begins (eqb (getD file (trailerAt file + 7) 0) 0) _ _ (λ e. rw e) (λ e. rw e)
+      ref-leaves offsets NotAllowed = either Begins (eqb (getD file (trailerAt file + 7) 0) 0) _ _ (λ e. rw e) (λ e. rw e)
 
       sizes-leaves : (s : Size) → Leaves (begin file r (sizesOf file s))
       unfolding sizesOf begin unchanged
@@ -133,10 +140,10 @@ module _ (file : List ℕ) (r : Reader) where
     begin-leaves : Leaves (begin file r (trailerOf file))
     unfolding trailerOf begin unchanged
     begin-leaves =
-        by-test Begins (ltb (length file) 8) _ _
+        either Begins (ltb (length file) 8) _ _
         (λ e. short-leaves (omega (arith, ltb-true (length file) 8 e)))
-        (λ e. by-test Begins (begins magic file) _ _
-        (λ e. by-test Begins (ltb (length file) 32) _ _
+        (λ e. either Begins (begins magic file) _ _
+        (λ e. either Begins (ltb (length file) 32) _ _
         (λ e. short-leaves (ltb-true _ _ e))
         (λ e. sizes-leaves (ltb-false _ _ e) (widthOf (getD file (trailerAt file + 6) 0))))
         (λ e. refl))
@@ -148,21 +155,21 @@ module _ (file : List ℕ) (r : Reader) where
   pub leaves : Leaves (nextOf file r)
   unfolding nextOf unchanged
   leaves =
-      by-test Leaves (not (r .fresh) && eqb (r .depth) 0) _ _
+      either Leaves (not (r .fresh) && eqb (r .depth) 0) _ _
       (λ e. let t = both (r .fresh) (eqb (r .depth) 0) e in (refl, record { old = t .0; none = eqb-true _ _ (t .1) }))
-      (λ e. by-test Leaves (ltb maxLength (length file)) _ _ (λ e. refl)
-      (λ e. by-test Leaves (r .fresh) _ _ begin-leaves
-      (λ f. by-test Leaves (not (eqb (r .length) (length file))) _ _ (λ e. wrong-leaves)
-      (λ e. by-test Leaves (ltb maxOpen (r .depth)) _ _ (λ e. wrong-leaves)
+      (λ e. either Leaves (ltb maxLength (length file)) _ _ (λ e. refl)
+      (λ e. either Leaves (r .fresh) _ _ begin-leaves
+      (λ f. either Leaves (not (eqb (r .length) (length file))) _ _ (λ e. wrong-leaves)
+      (λ e. either Leaves (ltb maxOpen (r .depth)) _ _ (λ e. wrong-leaves)
       (λ e. go-leaves (ap (λ (b : Bool). b && ltb (length file) 32) f) (widthOf (r .offsets)) (widthOf (r .refs)))))))
 
   -- the state after a refusal
   pub state-after : (number : ℕ) (values : List ℕ) (place : ℕ) → nextOf file r .answer ≡ refused number values place → nextOf file r .state ≡ cond (unchanged file r number) r endedReader
   state-after number values place a = rw a at leaves
 
-  -- 6 to 15 end, whatever the file and the state
-  pub refusal-ends : (number : ℕ) (values : List ℕ) (place : ℕ) → nextOf file r .answer ≡ refused number values place → 6 ≤ number → number ≤ 15 → nextOf file r .state ≡ endedReader
-  refusal-ends number values place a h k = rw (six-ends number h k) at (state-after number values place a)
+  -- those refusals end, whatever the file and the state
+  pub refusal-ends : (number : ℕ) (values : List ℕ) (place : ℕ) → nextOf file r .answer ≡ refused number values place → among endRefusals number ≡ true → (number ≡ 2 → ⊥) → nextOf file r .state ≡ endedReader
+  refusal-ends number values place a h k = rw (listed-ends number h k) at (state-after number values place a)
 
   -- the answer ended comes of an ended state, which it leaves
   pub after-ended : nextOf file r .answer ≡ ended → Done (nextOf file r .state)
@@ -175,8 +182,8 @@ pub ended-again : (file : List ℕ) (n m : ℕ) → answerOf file n ≡ ended �
 unfolding answerOf runs
 ended-again file n m a = rw add-one (done-answers file (suc n) (after-ended file (runs file n) a) m)
 
--- and so it is after a refusal of 6 to 15
-pub ended-after-refusal : (file : List ℕ) (n m number : ℕ) (values : List ℕ) (place : ℕ) → answerOf file n ≡ refused number values place → 6 ≤ number → number ≤ 15
+-- and so it is after such a refusal
+pub ended-after-refusal : (file : List ℕ) (n m number : ℕ) (values : List ℕ) (place : ℕ) → answerOf file n ≡ refused number values place → among endRefusals number ≡ true → (number ≡ 2 → ⊥)
     → answerOf file (n + 1 + m) ≡ ended
 unfolding answerOf runs
 ended-after-refusal file n m number values place a h k =

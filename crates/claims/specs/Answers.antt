@@ -1,9 +1,11 @@
 -- What a fresh reader never answers on one file, over any number of calls: 17; 15 where the file has few objects; a record that the file is
 -- then said not to give.
+use mathlib.Core.Bool.{true}
 use mathlib.Core.List.{List}
 use mathlib.Core.Path.{_≡_, refl}
 use Prim.Native.Nat.{ℕ, suc, _≤_}
 use native.Mathlib.Omega.{arith}
+use Rattle.number.specs.Among.{among, among-not}
 use Rattle.event.specs.declared.Event.{Event}
 use Rattle.layout.specs.FoundLaws.{refsOf}
 use Rattle.layout.specs.LookLaws.{never-missing}
@@ -14,6 +16,7 @@ use Rattle.layout.specs.Trailer.{eightAt}
 use Rattle.layout.specs.declared.layout.Due.the-variants.{Wrong}
 use Rattle.reader.specs.Machine.{event, refused}
 use Rattle.reader.specs.Next.{nextOf}
+use Rattle.reader.specs.Refusals.{stepRefusals, not-step-16, not-step-17}
 use Rattle.reader.specs.Request.{askedOf}
 use Rattle.reader.specs.State.{maxOpen, innermost}
 use Rattle.reader.specs.declared.answer.Record.{Record}
@@ -26,13 +29,17 @@ use Rattle.claims.specs.Fair.{Refusing, fair}
 use Rattle.claims.specs.Look.{Given}
 use Rattle.claims.specs.Open.{opened-pending, Open}
 
--- a refusal of such a call has a number up to 15
-pub known-number : (file : List ℕ) (n number : ℕ) (values : List ℕ) (place : ℕ) → answerOf file n ≡ refused number values place → number ≤ 15
+-- a refusal of such a call has a step's number
+pub known-number : (file : List ℕ) (n number : ℕ) (values : List ℕ) (place : ℕ) → answerOf file n ≡ refused number values place → among stepRefusals number ≡ true
 known-number file n number values place e = let h : Refusing file (runs file n) (runs file (suc n)) number = rw e at (fair file n) in h .known
 
 -- 17 never comes on the file that a state came from (docs/FORMAT.md, R23)
 pub never-wrong-file : (file : List ℕ) (n : ℕ) (values : List ℕ) (place : ℕ) → answerOf file n ≡ refused 17 values place → ⊥
-never-wrong-file file n values place e = omega (arith, known-number file n 17 values place e)
+never-wrong-file file n values place e = among-not stepRefusals 17 17 (known-number file n 17 values place e) not-step-17 refl
+
+-- 16 is the text request's alone
+pub never-no-room : (file : List ℕ) (n : ℕ) (values : List ℕ) (place : ℕ) → answerOf file n ≡ refused 16 values place → ⊥
+never-no-room file n values place e = among-not stepRefusals 16 16 (known-number file n 16 values place e) not-step-16 refl
 
 -- a record that any call on a file hands out, of any state, is given by that file
 given-is : (file : List ℕ) (e : Event) (a : Asked) → Stands file e a → Given a

@@ -5,13 +5,15 @@ use mathlib.Core.Path.{_≡_, refl, _∙_}
 use Prim.Native.Nat.{ℕ, _-_, _≤_, _<_}
 use native.Mathlib.Omega.{arith}
 use borrow.Author.Tests.{leb-true, leb-false, ltb-false}
-use lib.Dec.{ltb, leb, lit≤}
+use lib.Dec.{ltb, leb}
 use lib.ListN.{length}
+use Rattle.number.specs.Among.{among}
 use Rattle.number.specs.WidthLaws.{allowed}
 use Rattle.event.specs.declared.Event.{Event}
 use Rattle.event.specs.declared.Event.the-variants.{EndCollection}
-use Rattle.layout.specs.FoundLaws.{refsOf, faults-below}
+use Rattle.layout.specs.FoundLaws.{refsOf}
 use Rattle.layout.specs.LookLaws.{Looked-right, look-right, Laid, never-missing}
+use Rattle.layout.specs.Refusals.{fileRefusals, file-refusal, trailer-refusal}
 use Rattle.layout.specs.TrailerLaws.{Tells, tells}
 use Rattle.layout.specs.Layout.{dueOf, lookOf, sourceOf}
 use Rattle.layout.specs.Looked.{Looked, barred, missing, faulty, scalar, container, Shape, startOf}
@@ -30,7 +32,7 @@ use Rattle.claims.specs.Open.{Opened, opened-pending, Open}
 -- a call of a reader with an open container
 pub data Call (file : List ℕ) (l : Layout) (r : Reader) : Type 0 where
   closing : (offset : ℕ) → nextOf file r ≡ step (closed r) (eventAt EndCollection offset) → Call file l r
-  refusing : (number : ℕ) (values : List ℕ) (place : ℕ) → number < 14 → nextOf file r ≡ refuse number values place → Call file l r
+  refusing : (number : ℕ) (values : List ℕ) (place : ℕ) → among fileRefusals number ≡ true → nextOf file r ≡ refuse number values place → Call file l r
   passing : (n : ℕ) → dueOf file l (innermost r) ≡ Member n → (e : Event) (offset : ℕ) → Asks file e offset
       → nextOf file r ≡ step (passed r offset) (eventAt e offset) → Call file l r
   again : (n : ℕ) → dueOf file l (innermost r) ≡ Member n → memberOf (openOf r) n ≡ true
@@ -66,9 +68,9 @@ module _ (file : List ℕ) (r : Reader) (o : Open file r) where
   arrive-call : (n : ℕ) → dueOf file (o .layout) (innermost r) ≡ Member n → (x : Looked) → lookOf file (o .layout) n ≡ x → Looked-right file (o .layout) n x
       → nextOf file r ≡ arrive r n x → Call file (o .layout) r
   unfolding arrive
-  arrive-call n d (barred number values) e k h = refusing number values (r .place) (faults-below number k) h
+  arrive-call n d (barred number values) e k h = refusing number values (r .place) (file-refusal number k) h
   arrive-call n d missing e k h = absurd (never-missing file (o .layout) (o .laid) n e)
-  arrive-call n d (faulty number values place) e k h = refusing number values place (faults-below number k) h
+  arrive-call n d (faulty number values place) e k h = refusing number values place (file-refusal number k) h
   arrive-call n d (scalar v offset) e k h = passing n d v offset (asks file offset v k) h
   arrive-call n d (container s k offset) e st h = enter-call n d s k offset e (st .numbered) h
 
@@ -82,8 +84,8 @@ module _ (file : List ℕ) (r : Reader) (o : Open file r) where
 
 -- the first call
 pub data First (file : List ℕ) : Type 0 where
-  keeping : (number : ℕ) (values : List ℕ) (place : ℕ) → number ≤ 5 → nextOf file freshReader ≡ step freshReader (refused number values place) → First file
-  refusing : (number : ℕ) (values : List ℕ) (place : ℕ) → number < 14 → nextOf file freshReader ≡ refuse number values place → First file
+  keeping : (number : ℕ) (values : List ℕ) (place : ℕ) → among fileRefusals number ≡ true → nextOf file freshReader ≡ step freshReader (refused number values place) → First file
+  refusing : (number : ℕ) (values : List ℕ) (place : ℕ) → among fileRefusals number ≡ true → nextOf file freshReader ≡ refuse number values place → First file
   passing : length file ≤ maxLength → (e : Event) (offset : ℕ) → Asks file e offset → nextOf file freshReader ≡ step endedReader (eventAt e offset) → First file
   entering : length file ≤ maxLength → (l : Layout) (root : ℕ) → trailerOf file ≡ lays l root → (s : Shape) (k offset : ℕ) → lookOf file l root ≡ container s k offset
       → nextOf file freshReader ≡ step (entered (laidOut file l) root k offset) (eventAt (startOf s k) offset) → First file
@@ -92,9 +94,9 @@ module _ (file : List ℕ) where
   first-arrive : length file ≤ maxLength → (l : Layout) (root : ℕ) → trailerOf file ≡ lays l root → Laid file l → (x : Looked) → lookOf file l root ≡ x → Looked-right file l root x
       → nextOf file freshReader ≡ arrive (laidOut file l) root x → First file
   unfolding arrive enter passed laidOut openOf memberOf
-  first-arrive t l root s d (barred number values) e k h = refusing number values (laidOut file l .place) (faults-below number k) h
+  first-arrive t l root s d (barred number values) e k h = refusing number values (laidOut file l .place) (file-refusal number k) h
   first-arrive t l root s d missing e k h = absurd (never-missing file l d root e)
-  first-arrive t l root s d (faulty number values place) e k h = refusing number values place (faults-below number k) h
+  first-arrive t l root s d (faulty number values place) e k h = refusing number values place (file-refusal number k) h
   first-arrive t l root s d (scalar v offset) e k h = passing t v offset (asks file offset v k) h
   first-arrive t l root s d (container shape k offset) e st h = entering t l root s shape k offset e h
 
@@ -103,10 +105,10 @@ module _ (file : List ℕ) where
   first = go (ltb maxLength (length file)) refl
     where
       trail : length file ≤ maxLength → (x : Trailer) → trailerOf file ≡ x → Tells file x → nextOf file freshReader ≡ begin file freshReader x → First file
-      trail t (keeps number values place) e k h = keeping number values place (k .1) h
-      trail t (ends number values place) e k h = refusing number values place (omega arith) h
+      trail t (keeps number values place) e k h = keeping number values place (trailer-refusal number (omega arith) (omega arith)) h
+      trail t (ends number values place) e k h = refusing number values place (trailer-refusal number (omega arith) (omega arith)) h
       trail t (lays l root) e k h = first-arrive t l root e (k .laid) (lookOf file l root) refl (look-right file l root) h
 
       go : (b : Bool) → ltb maxLength (length file) ≡ b → First file
-      go true e = keeping 1 [] 0 (lit≤ tt) (next-begin file freshReader refl ∙ rw e)
+      go true e = keeping 1 [] 0 (trailer-refusal 1 (omega arith) (omega arith)) (next-begin file freshReader refl ∙ rw e)
       go false e = trail (ltb-false _ _ e) (trailerOf file) refl (tells file) (next-begin file freshReader refl ∙ rw e)

@@ -9,7 +9,7 @@ use borrow.Author.Tests.{lt-ltb, le-leb, eq-eqb, ne-eqb}
 use lib.ListN.{length}
 use Rattle.number.specs.Be.{be}
 use Rattle.number.specs.Width.{bytesIn}
-use Rattle.object.specs.Content.{part}
+use Rattle.number.specs.Part.{part}
 use Rattle.object.specs.declared.content.Extent.{Extent}
 use Rattle.layout.specs.FoundLaws.{made, refsOf}
 use Rattle.layout.specs.LookLaws.{Standing}

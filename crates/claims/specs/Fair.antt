@@ -1,12 +1,13 @@
 -- What a call may answer in a state that a fresh reader comes to by calls on one file, and what state it leaves: all that the claims
 -- about answers need, shown once.
+use mathlib.Core.Bool.{true}
 use mathlib.Core.List.{List}
 use mathlib.Core.Logic.{_⊎_, inl, inr}
 use mathlib.Core.Path.{_≡_, refl}
 use Prim.Native.Nat.{ℕ, suc, _≤_, _<_}
 use native.Mathlib.Omega.{arith}
-use lib.Dec.{lit≤}
 use lib.ListN.{length}
+use Rattle.number.specs.Among.{among}
 use Rattle.layout.specs.Layout.{dueOf}
 use Rattle.layout.specs.Looked.{Shape, array, dictionary, startOf}
 use Rattle.layout.specs.Trailer.{lays, eightAt, trailerOf}
@@ -15,6 +16,8 @@ use Rattle.layout.specs.declared.layout.Layout.{Layout}
 use Rattle.reader.specs.Machine.{Said, event, ended, refused}
 use Rattle.reader.specs.Next.{nextOf}
 use Rattle.reader.specs.NextLaws.{next-ended}
+use Rattle.layout.specs.Refusals.{fileRefusals, file-not}
+use Rattle.reader.specs.Refusals.{stepRefusals, step-refusal}
 use Rattle.reader.specs.State.{maxOpen, maxLength, freshReader, endedReader, openOf, innermost}
 use Rattle.reader.specs.declared.state.Reader.{Reader}
 use Rattle.claims.specs.Call as call
@@ -40,9 +43,9 @@ pub record Full (file : List ℕ) (r : Reader) : Type 0 where
   pub depth : maxOpen ≤ r .depth
   pub more : r .depth < eightAt file 8
 
--- a refusal has a number up to 15; 14 and 15 have their reason; and it ends the reader, unless that was fresh and still is
+-- a refusal has a step's number, which is never 16 or 17; 14 and 15 have their reason; and it ends the reader, unless that was fresh and still is
 pub record Refusing (file : List ℕ) (r s : Reader) (number : ℕ) : Type 0 where
-  pub known : number ≤ 15
+  pub known : among stepRefusals number ≡ true
   pub recursive : number ≡ 14 → Recurs file r
   pub deep : number ≡ 15 → Full file r
   pub settled : (s ≡ endedReader) ⊎ ((r ≡ freshReader) × (s ≡ freshReader))
@@ -54,8 +57,22 @@ Fair file r s ended = Unit {0}
 Fair file r s (refused number values place) = Refusing file r s number
 
 -- a refusal for another reason than 14 and 15
-other : {file : List ℕ} {r s : Reader} (number : ℕ) → number < 14 → (s ≡ endedReader) ⊎ ((r ≡ freshReader) × (s ≡ freshReader)) → Refusing file r s number
-other number h e = record { known = omega arith; recursive = λ q. absurd (omega arith); deep = λ q. absurd (omega arith); settled = e }
+other : {file : List ℕ} {r s : Reader} (number : ℕ) → among fileRefusals number ≡ true → (s ≡ endedReader) ⊎ ((r ≡ freshReader) × (s ≡ freshReader)) → Refusing file r s number
+other number h e =
+    record {
+      known = step-refusal number h;
+      recursive = λ q. absurd (file-not number 14 h (omega arith) (omega arith) q);
+      deep = λ q. absurd (file-not number 15 h (omega arith) (omega arith) q);
+      settled = e;
+    }
+
+listed-14 : among stepRefusals 14 ≡ true
+unfolding stepRefusals among
+listed-14 = refl
+
+listed-15 : among stepRefusals 15 ≡ true
+unfolding stepRefusals among
+listed-15 = refl
 
 start-asks : (file : List ℕ) (s : Shape) (k offset : ℕ) → Asks file (startOf s k) offset
 unfolding startOf
@@ -71,7 +88,7 @@ module _ (file : List ℕ) where
   fair-open r o (call.again n d m offset e) =
       rw e
       (record {
-        known = lit≤ tt;
+        known = listed-14;
         recursive = λ q. record { layout = o .layout; root = o .root; says = o .says; object = n; due = d; at = member-at (r .frames) (r .depth) n m };
         deep = λ q. absurd (omega arith);
         settled = inl refl;
@@ -79,7 +96,7 @@ module _ (file : List ℕ) where
   fair-open r o (call.deep n d m h k offset e) =
       rw e
       (record {
-        known = lit≤ tt;
+        known = listed-15;
         recursive = λ q. absurd (omega arith);
         deep = λ q. record { depth = k; more = omega (arith, open-fewer file r o n h (not-open file r o n d m), count-is file r o) };
         settled = inl refl;
@@ -87,7 +104,7 @@ module _ (file : List ℕ) where
   fair-open r o (call.entering n d m few s k offset look e) = rw e (o .short, start-asks file s k offset)
 
   fair-first : First file → Fair file freshReader (nextOf file freshReader .state) (nextOf file freshReader .answer)
-  fair-first (call.keeping number values place h e) = rw e (other number (omega arith) (inr (refl, refl)))
+  fair-first (call.keeping number values place h e) = rw e (other number h (inr (refl, refl)))
   fair-first (call.refusing number values place h e) = rw e (other number h (inl refl))
   fair-first (call.passing short v offset a e) = rw e (short, a)
   fair-first (call.entering short l root says s k offset look e) = rw e (short, start-asks file s k offset)

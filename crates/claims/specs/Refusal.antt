@@ -14,7 +14,7 @@ use Rattle.event.specs.declared.Event.the-variants.{StartArray, StartDictionary
 use Rattle.event.specs.declared.Length.the-variants.{Given}
 use Rattle.number.specs.declared.width.Width.the-variants.{One}
 use Rattle.object.specs.Container.{containerAt}
-use Rattle.object.specs.Content.{part}
+use Rattle.number.specs.Part.{part}
 use Rattle.object.specs.Object.{Found, objectAt}
 use Rattle.object.specs.Object as found
 use Rattle.object.specs.declared.container.Container.{Container}

@@ -12,7 +12,7 @@ use lib.ListN.{length, getElem?}
 use Rattle.number.specs.Width.{widthOf}
 use Rattle.number.specs.declared.width.Size.{Size}
 use Rattle.number.specs.declared.width.Size.the-variants.{Allowed, NotAllowed}
-use Rattle.layout.specs.FoundLaws.{faults-below}
+use Rattle.layout.specs.Refusals.{file-refusal, file-not}
 use Rattle.layout.specs.Layout.{entryAt, given, dueOf, standsFrom, standsAt, lookFrom, lookOf, sourceOf}
 use Rattle.layout.specs.LookLaws.{Looked-right, look-right, entry-there}
 use Rattle.layout.specs.Looked.{Looked, barred, missing, faulty, scalar, container, Shape}
@@ -59,9 +59,9 @@ module _ (file : List ℕ) (l : Layout) (r : Reader) (n : ℕ) where
 
   arrive-only : (x : Looked) → Looked-right file l n x → Says17 (arrive r n x .answer) → (n < l .count) × (entryAt file l n ≡ Outside)
   unfolding arrive
-  arrive-only (barred number values) k h = absurd (omega (arith, faults-below number k))
+  arrive-only (barred number values) k h = absurd (file-not number 17 (file-refusal number k) (omega arith) (omega arith) h)
   arrive-only missing k h = k
-  arrive-only (faulty number values offset) k h = absurd (omega (arith, faults-below number k))
+  arrive-only (faulty number values offset) k h = absurd (file-not number 17 (file-refusal number k) (omega arith) (omega arith) h)
   arrive-only (scalar e offset) k h = absurd h
   arrive-only (container s c offset) k h = absurd (enter-only s c offset h)
 

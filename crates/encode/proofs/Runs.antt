@@ -5,7 +5,7 @@ use Prim.Native.Nat.{ℕ, _+_, _-_, _≤_, _<_}
 use native.Mathlib.Nat.{add-sub-cancel-left}
 use borrow.Author.Tests.{le-leb, lt-leb}
 use lib.ListN.{length, take, drop}
-use Rattle.tape.specs.PartLaws.{length-part}
+use Rattle.number.specs.PartLaws.{length-part}
 use Rattle.tape.specs.declared.value.Value.the-variants.{Of}
 use Rattle.encode.specs.Put.{eightIn, runIn}
 

@@ -8,7 +8,8 @@ use lib.ListN.{length, getD}
 use lib.Seq.{sets}
 use Rattle.number.specs.Be.{bytesOf}
 use Rattle.number.specs.Size.{sizeOf}
-use Rattle.tape.specs.Value.{part, numberAt}
+use Rattle.number.specs.Part.{part}
+use Rattle.tape.specs.Value.{numberAt}
 use Rattle.tape.specs.declared.value.Value.{Value}
 use Rattle.tape.specs.declared.value.Value.the-variants.{Of, NoValue}
 use Rattle.unicode.specs.Unicode.{isUtf8, toUtf16}

@@ -5,7 +5,8 @@ use Prim.Native.Nat.{ℕ, _+_, _*_, _^_}
 use lib.Dec.{ltb, leb, eqb}
 use lib.ListN.{length, getD}
 use Rattle.number.specs.Size.{sizeOf}
-use Rattle.tape.specs.Value.{part, numberAt}
+use Rattle.number.specs.Part.{part}
+use Rattle.tape.specs.Value.{numberAt}
 use Rattle.tape.specs.declared.value.Value.{Value}
 use Rattle.tape.specs.declared.value.Value.the-variants.{Of, NoValue}
 use Rattle.unicode.specs.ToUtf16.{unitsIn}

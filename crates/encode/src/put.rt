@@ -2,6 +2,7 @@
 // it wrote: where there is no room, or no scalar stands on the tape, it writes nothing and answers 0.
 use crate::size::head_size;
 use number::be::write_be;
+use number::copy::write_bytes;
 use number::size::size_for;
 use tape::room::lacks_room;
 use tape::value::Value;
@@ -158,7 +159,8 @@ fn put_eight(out: &mut [u8], marker: u8, tape: &[u8], at: usize) -> usize
     }
     out[0] = marker;
     let end = at + 8;
-    write_bytes(out, 1, &tape[at..end])
+    write_bytes(out, 1, &tape[at..end]);
+    9
 }
 
 // Data, or text that is ASCII: the number is its length.
@@ -202,7 +204,8 @@ fn put_headed(out: &mut [u8], base: Base, bytes: &[u8]) -> usize
         return 0;
     }
     let start = write_head(out, base, bytes.len());
-    write_bytes(out, start, bytes)
+    write_bytes(out, start, bytes);
+    start + bytes.len()
 }
 
 // The text goes first: it may be refused, and the head not.
@@ -287,17 +290,4 @@ fn write_between(out: &mut [u8], at: usize, end: usize, n: u64) -> usize
 {
     write_be(&mut out[at..end], n);
     end
-}
-
-fn write_bytes(out: &mut [u8], at: usize, bytes: &[u8]) -> usize
-    requires { ⌜ at + length (now bytes) ≤ length (now out) ⌝ }
-    ensures { λ r. ⌜ r ≡ at + length (now (bytes .entry)) ⌝ }
-    ensures { λ _. ⌜ now (out .exit) ≡ sets (now (out .entry)) at (now (bytes .entry)) ⌝ }
-{
-    let mut i: usize = 0;
-    while i < bytes.len() {
-        out[at + i] = bytes[i];
-        i += 1;
-    }
-    at + i
 }

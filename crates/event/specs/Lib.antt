@@ -1,3 +1,5 @@
+pub mod Bare
+pub mod Date
 pub mod Format
 pub mod Meaning
 pub mod Real

@@ -1,5 +1,5 @@
 -- The magic as a number.
-use Prim.Native.Nat.{ℕ, zero, suc, _≤_}
+use Prim.Native.Nat.{ℕ, _≤_}
 use mathlib.Core.Bool.{Bool, true, false}
 use mathlib.Core.List.{List, [], _∷_}
 use mathlib.Core.Path.{_≡_, refl, sym, ap, _∙_}
@@ -10,7 +10,8 @@ use lib.ListN.{length, take}
 use lib.Seq.{length-take-le}
 use Rattle.number.specs.Be.{be, onto, bytesOf}
 use Rattle.number.specs.BeLaws.{Bytes, bytesOf-be}
-use Rattle.object.specs.Content.{part}
+use Rattle.number.specs.Part.{part}
+use Rattle.number.specs.PartLaws.{bytes-take}
 use Rattle.event.specs.Format.{magic}
 use Rattle.layout.specs.Trailer.{begins}
 
@@ -33,11 +34,6 @@ take-begins (a ∷ m) (b ∷ s) h e =
     let p : b ≡ a = cc in
     let q : take (length m) s ≡ m = cc in
     rw (eq-eqb a b (sym p), take-begins m s (omega arith) q)
-
-bytes-take : (n : ℕ) (s : List ℕ) → Bytes s → Bytes (take n s)
-bytes-take zero s b = tt
-bytes-take (suc n) [] b = tt
-bytes-take (suc n) (x ∷ s) b = (b .0, bytes-take n s (b .1))
 
 -- eight bytes are the magic exactly where their number is the magic's
 module _ (s : List ℕ) (bytes : Bytes s) (long : 8 ≤ length s) where

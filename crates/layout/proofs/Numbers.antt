@@ -4,14 +4,14 @@ use mathlib.Core.List.{List}
 use mathlib.Core.Path.{_≡_, sym, _∙_}
 use native.Mathlib.Nat.{mul-le-mul-left, le-div-iff-mul-le, div-lt-iff-lt-mul, div-le-self}
 use native.Mathlib.Omega.{arith}
-use borrow.Author.Tests.{ne-eqb, le-ltb, le-leb}
-use lib.ListN.{length, take, drop, length-drop}
-use lib.Seq.{length-take-le}
+use borrow.Author.Tests.{le-leb}
+use lib.ListN.{length, take, drop}
 use Rattle.number.specs.Be.{be}
 use Rattle.number.specs.Read.{numberOf}
 use Rattle.number.specs.declared.be.Number.{Number}
 use Rattle.number.specs.declared.be.Number.the-variants.{Of, NoNumber}
-use Rattle.object.specs.Content.{part}
+use Rattle.number.specs.Part.{part}
+use Rattle.number.specs.PartLaws.{number-part}
 use Rattle.number.specs.Width.{bytesIn}
 use Rattle.number.specs.declared.width.Width.{Width}
 use Rattle.layout.specs.Layout.{numberAt}
@@ -19,23 +19,15 @@ use Rattle.layout.specs.declared.layout.Entry.{Entry}
 use Rattle.layout.specs.declared.layout.Entry.the-variants.{Outside}
 use Rattle.layout.specs.declared.layout.Entry.the-variants as entry
 
--- 1 to 8 bytes within a file are a number
-number-in : (s : List ℕ) (at n : ℕ) → 0 < n → n ≤ 8 → at + n ≤ length s → numberOf (take (at + n - at) (drop at s)) ≡ Of (be (part s at n))
-unfolding numberOf
-number-in s at n h g k =
-    let d : at + n - at ≡ n = omega arith in
-    let e : length (take n (drop at s)) ≡ n = length-take-le n (drop at s) (rw length-drop (omega arith)) in
-    rw (d, e, ne-eqb n 0 (omega arith), le-ltb 8 n g)
-
 module _ (s : List ℕ) (at n : ℕ) (some : 0 < n) (few : n ≤ 8) (inside : at + n ≤ length s) (r : Number) (read : r ≡ numberOf (take (at + n - at) (drop at s))) where
   -- what is read of such bytes is their number
   pub is-number : (v : ℕ) → r ≡ Of v → v ≡ be (part s at n)
-  is-number v e = let z : Of v ≡ Of (be (part s at n)) = sym e ∙ read ∙ number-in s at n some few inside in cc
+  is-number v e = let z : Of v ≡ Of (be (part s at n)) = sym e ∙ read ∙ number-part s at n inside some few in cc
 
   -- and never nothing
   pub not-none : r ≡ NoNumber → ⊥
   not-none e =
-      let z : NoNumber ≡ Of (be (part s at n)) = sym e ∙ read ∙ number-in s at n some few inside in
+      let z : NoNumber ≡ Of (be (part s at n)) = sym e ∙ read ∙ number-part s at n inside some few in
       let q : _≡_ {A = ℕ} 0 1 = cc in
       omega arith
 

@@ -8,7 +8,7 @@ use Rattle.number.specs.Be.{be}
 use Rattle.number.specs.Width.{bytesIn}
 use Rattle.number.specs.declared.width.Width.{Width}
 use Rattle.event.specs.declared.Event.the-variants.{Data, String}
-use Rattle.object.specs.Content.{part}
+use Rattle.number.specs.Part.{part}
 use Rattle.object.specs.Container.{containerAt}
 use Rattle.object.specs.Object.{Found, objectAt}
 use Rattle.object.specs.Object as found

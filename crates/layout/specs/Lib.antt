@@ -6,6 +6,7 @@ pub mod LookLaws
 pub mod Looked
 pub mod References
 pub mod ReferencesLaws
+pub mod Refusals
 pub mod Said
 pub mod SaidLaws
 pub mod TestLaws

@@ -1,6 +1,6 @@
 -- What is known of an object that is looked up, in any file under any layout: the file gives it; and that no object is missing where the offset
 -- table ends at or before T.
-use mathlib.Core.Bool.{Bool, true, false, cond, false≢true}
+use mathlib.Core.Bool.{Bool, true, false, cond}
 use mathlib.Core.List.{List}
 use mathlib.Core.Logic.{_⊎_, inl, inr}
 use mathlib.Core.Path.{_≡_, refl}
@@ -8,26 +8,32 @@ use Prim.Native.Nat.{ℕ, suc, _+_, _*_, _≤_, _<_}
 use native.Mathlib.Nat.{mul-le-mul-right, suc-mul}
 use native.Mathlib.Omega.{arith}
 use borrow.Author.Tests.{lt-ltb, le-leb, ltb-true}
-use lib.Dec.{ltb, eqb, lit≤}
+use lib.Dec.{ltb, eqb}
 use lib.ListN.{length}
+use Rattle.number.specs.Among.{among}
 use Rattle.number.specs.Be.{be}
 use Rattle.number.specs.Width.{bytesIn}
 use Rattle.number.specs.declared.width.Width.{Width}
 use Rattle.number.specs.declared.width.Width.the-variants.{One}
 use Rattle.unicode.specs.Unicode.{isUtf8, isUtf16}
+use Rattle.event.specs.Bare.{Bare}
 use Rattle.event.specs.declared.Event.{Event}
 use Rattle.event.specs.declared.Event.the-variants.{StartArray, StartDictionary, EndCollection, Boolean, Data, Date, Integer, Real, Nan, String, Uid}
 use Rattle.object.specs.Container.{containerAt}
-use Rattle.object.specs.Content.{part, trailerAt}
+use Rattle.number.specs.Part.{part}
+use Rattle.object.specs.Content.{trailerAt}
+use Rattle.object.specs.KnownLaws.{Plain}
+use Rattle.object.specs.Refusal.{objectRefusals}
 use Rattle.object.specs.Object.{Found, objectAt}
 use Rattle.object.specs.Object as found
 use Rattle.object.specs.declared.container.Container.{Container}
 use Rattle.object.specs.declared.container.Container.the-variants.{Array, Dictionary, NoContainer}
-use Rattle.layout.specs.Bytes.{Asked, inFile, inUtf16, noBytes, denied, dataAsked, textAsked, endAsked, eventAsked, hasBytes, isWhole}
-use Rattle.layout.specs.FoundLaws.{Lies, Faults, Sound, sound, whole-given}
+use Rattle.layout.specs.Bytes.{Asked, inFile, inUtf16, noBytes, denied, dataAsked, textAsked, endAsked, eventAsked, hasBytes}
+use Rattle.layout.specs.FoundLaws.{Lies, Sound, sound, plain-whole, whole-given}
 use Rattle.layout.specs.Layout.{numberAt, entryAt, given, dueAt, inArray, inDictionary, dueIn, standsFrom, standsAt, dueOf, lookIn, lookFrom, lookOf}
+use Rattle.layout.specs.Refusals.{lookRefusals, Faults}
 use Rattle.layout.specs.Looked.{Looked, barred, missing, faulty, scalar, container, Shape, withPlace}
-use Rattle.layout.specs.TestLaws.{by-test}
+use Rattle.number.specs.Either.{either}
 use Rattle.layout.specs.declared.frame.Frame.{Frame}
 use Rattle.layout.specs.declared.layout.Due.{Due}
 use Rattle.layout.specs.declared.layout.Due.the-variants.{Wrong, Close}
@@ -40,22 +46,36 @@ use Rattle.layout.specs.declared.layout.Standing.{Standing as StandingRe
 abbrev pub Bytes-right : List ℕ → Event → Asked → Type 0
 Bytes-right file e (inFile start n) = (e ≡ Data) ⊎ ((e ≡ String) × (isUtf8 (part file start n) ≡ true))
 Bytes-right file e (inUtf16 start n) = (e ≡ String) × (isUtf16 (part file start n) ≡ true)
-Bytes-right file e noBytes = hasBytes e ≡ false
+Bytes-right file e noBytes = Bare e
 Bytes-right file e (denied number values) = ⊥
 
-whole-plain : (e : Event) → isWhole e ≡ true → hasBytes e ≡ false
-unfolding isWhole hasBytes
-whole-plain (StartArray n) h = refl
-whole-plain (StartDictionary n) h = refl
-whole-plain EndCollection h = refl
-whole-plain (Boolean b) h = refl
-whole-plain Data h = absurd (false≢true h)
-whole-plain (Date b) h = refl
-whole-plain (Integer i) h = refl
-whole-plain (Real x) h = refl
-whole-plain (Nan b) h = refl
-whole-plain String h = absurd (false≢true h)
-whole-plain (Uid n) h = refl
+plain-bare : (e : Event) → Plain e → Bare e
+plain-bare (StartArray n) h = tt
+plain-bare (StartDictionary n) h = tt
+plain-bare EndCollection h = tt
+plain-bare (Boolean b) h = tt
+plain-bare Data h = absurd h
+plain-bare (Date b) h = h
+plain-bare (Integer i) h = tt
+plain-bare (Real x) h = tt
+plain-bare (Nan b) h = tt
+plain-bare String h = absurd h
+plain-bare (Uid n) h = tt
+
+-- an event that is known without bytes has none
+pub bare-plain : (e : Event) → Bare e → hasBytes e ≡ false
+unfolding hasBytes
+bare-plain (StartArray n) h = refl
+bare-plain (StartDictionary n) h = refl
+bare-plain EndCollection h = refl
+bare-plain (Boolean b) h = refl
+bare-plain Data h = absurd h
+bare-plain (Date b) h = refl
+bare-plain (Integer i) h = refl
+bare-plain (Real x) h = refl
+bare-plain (Nan b) h = refl
+bare-plain String h = absurd h
+bare-plain (Uid n) h = refl
 
 -- a container that was looked up: its number is below the count, its entry gives its offset, it stands there with its length, and its
 -- references lie within the file
@@ -71,13 +91,22 @@ Looked-right file l n (faulty number values offset) = Faults number
 Looked-right file l n (scalar e offset) = Bytes-right file e (eventAsked file e offset)
 Looked-right file l n (container s k offset) = Standing file l n s k offset
 
+-- an offset at or above T, and a number that isn't below the count
+listed-6 : Faults 6
+unfolding lookRefusals objectRefusals among
+listed-6 = refl
+
+listed-7 : Faults 7
+unfolding lookRefusals objectRefusals among
+listed-7 = refl
+
 module _ (file : List ℕ) (l : Layout) (n : ℕ) where
   module _ (numbered : n < l .count) where
     in-right : (offset : ℕ) → entryAt file l n ≡ Of offset → (x : Found) → Sound file (bytesIn (l .refs)) x (objectAt file One offset) (containerAt file offset) → Looked-right file l n (lookIn offset x)
     unfolding lookIn eventAsked dataAsked textAsked
-    in-right offset entry found.outside h = inr (lit≤ tt, lit≤ tt)
+    in-right offset entry found.outside h = listed-6
     in-right offset entry (found.refused number values) h = h
-    in-right offset entry (found.scalar e) h = rw (whole-given file e offset (h .1) (h .0)) (whole-plain e (h .1))
+    in-right offset entry (found.scalar e) h = rw (whole-given file e offset (plain-whole e (h .1)) (h .0)) (plain-bare e (h .1))
     in-right offset entry (found.bytes start k) h = rw (h .0) (inl refl)
     in-right offset entry (found.utf8 start k) h = rw (h .0) (inr (refl, h .2))
     in-right offset entry (found.utf16 start k) h = rw (h .0) (refl, h .2)
@@ -95,7 +124,7 @@ module _ (file : List ℕ) (l : Layout) (n : ℕ) where
     where
       go : (b : Bool) → ltb n (l .count) ≡ b → Looked-right file l n (lookOf file l n)
       go true e = rw e (from-right (ltb-true _ _ e) (entryAt file l n) refl)
-      go false e = rw e (inr (lit≤ tt, lit≤ tt))
+      go false e = rw e listed-7
 
   -- a container that is looked up, and where it is found each time
   module _ (s : Shape) (k offset : ℕ) (look : lookOf file l n ≡ container s k offset) where
@@ -168,7 +197,7 @@ module _ (file : List ℕ) (l : Layout) (f : Frame) (offset : ℕ) where
 
   pub close-given : dueOf file l f ≡ Close offset → eventAsked file EndCollection offset ≡ noBytes
   unfolding dueOf standsAt dueIn
-  close-given = by-test Given-at (ltb (f .object) (l .count)) _ _ (λ h. from-close (entryAt file l (f .object))) (λ h. never)
+  close-given = either Given-at (ltb (f .object) (l .count)) _ _ (λ h. from-close (entryAt file l (f .object))) (λ h. never)
 
 -- a scalar and a container are the same with any place
 module _ (place : ℕ) where

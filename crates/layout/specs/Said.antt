@@ -2,8 +2,8 @@
 use mathlib.Core.List.{List, [], _∷_}
 use mathlib.Core.Path.{_≡_}
 use Prim.Native.Nat.{ℕ}
-use Rattle.object.specs.Found.{numberOf as objectNumber, valuesOf as objectValues}
-use Rattle.object.specs.declared.read.Refusal as object
+use Rattle.object.specs.Refusal.{numberOf as objectNumber, valuesOf as objectValues}
+use Rattle.object.specs.declared.refusal.Refusal as object
 use Rattle.layout.specs.Bytes.{Asked, inFile, inUtf16, noBytes, denied}
 use Rattle.layout.specs.Looked.{Looked, faulty, scalar, container, Shape, array, dictionary}
 use Rattle.layout.specs.Trailer.{Trailer, keeps, ends, lays}

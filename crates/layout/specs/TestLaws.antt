@@ -1,11 +1,6 @@
--- What an answer by a test tells, and what is told of it.
+-- What an answer by a test tells.
 use mathlib.Core.Bool.{Bool, true, false, cond}
 use mathlib.Core.Path.{_≡_, refl}
-
--- what holds of both answers, where the test comes out so, holds of the answer
-pub by-test : {A : Type 0} (P : A → Type 0) (b : Bool) (x y : A) → (b ≡ true → P x) → (b ≡ false → P y) → P (cond b x y)
-by-test P true x y p q = p refl
-by-test P false x y p q = q refl
 
 -- the second answer is not the one given, so the test holds and the first answer is
 pub first : {A : Type 0} (b : Bool) (x y z : A) → cond b x y ≡ z → (y ≡ z → ⊥) → (b ≡ true) × (x ≡ z)

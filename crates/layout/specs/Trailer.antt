@@ -10,7 +10,8 @@ use Rattle.number.specs.declared.width.Size.{Size}
 use Rattle.number.specs.declared.width.Size.the-variants.{Allowed, NotAllowed}
 use Rattle.number.specs.declared.width.Width.{Width}
 use Rattle.event.specs.Format.{maxLength, magic}
-use Rattle.object.specs.Content.{part, trailerAt}
+use Rattle.number.specs.Part.{part}
+use Rattle.object.specs.Content.{trailerAt}
 use Rattle.layout.specs.declared.layout.Layout.{Layout}
 
 -- what a trailer says: refused with number, values and place, and the reader unchanged or ended; or a layout and a root

@@ -14,7 +14,7 @@ use Rattle.object.specs.Content.{trailerAt}
 use Rattle.layout.specs.Trailer.{Trailer, keeps, ends, lays, begins, eightAt, tableOf, refSizeOf, sizesOf, trailerOf}
 use Rattle.layout.specs.declared.layout.Layout.{Layout}
 use Rattle.layout.specs.LookLaws.{Laid}
-use Rattle.layout.specs.TestLaws.{by-test}
+use Rattle.number.specs.Either.{either}
 
 -- a layout and a root: the numbers are the trailer's, and the table ends at or before T
 pub record Laying (file : List ℕ) (l : Layout) (root : ℕ) : Type 0 where
@@ -33,14 +33,14 @@ module _ (file : List ℕ) where
   table-tells : (offsets refs : Width) → Tells file (tableOf file offsets refs)
   unfolding tableOf
   table-tells offsets refs =
-      by-test (Tells file) (leb (eightAt file 24 + eightAt file 8 * bytesIn offsets) (trailerAt file)) _ _
+      either (Tells file) (leb (eightAt file 24 + eightAt file 8 * bytesIn offsets) (trailerAt file)) _ _
       (λ e. record { laid = leb-true _ _ e; counts = refl; roots = refl; tables = refl })
       (λ e. (lit≤ tt, lit≤ tt))
 
   refs-tell : (offsets : Width) (s : Size) → Tells file (refSizeOf file offsets s)
   unfolding refSizeOf
   refs-tell offsets (Allowed refs) = table-tells offsets refs
-  refs-tell offsets NotAllowed = by-test (Tells file) (eqb (getD file (trailerAt file + 7) 0) 0) _ _ (λ e. (lit≤ tt, lit≤ tt)) (λ e. (lit≤ tt, lit≤ tt))
+  refs-tell offsets NotAllowed = either (Tells file) (eqb (getD file (trailerAt file + 7) 0) 0) _ _ (λ e. (lit≤ tt, lit≤ tt)) (λ e. (lit≤ tt, lit≤ tt))
 
   sizes-tell : (s : Size) → Tells file (sizesOf file s)
   unfolding sizesOf
@@ -50,7 +50,7 @@ module _ (file : List ℕ) where
   pub tells : Tells file (trailerOf file)
   unfolding trailerOf
   tells =
-      by-test (Tells file) (ltb (length file) 8) _ _ (λ e. (lit≤ tt, lit≤ tt))
-      (λ e. by-test (Tells file) (begins magic file) _ _
-      (λ e. by-test (Tells file) (ltb (length file) 32) _ _ (λ f. (lit≤ tt, lit≤ tt)) (λ f. sizes-tell (widthOf (getD file (trailerAt file + 6) 0))))
+      either (Tells file) (ltb (length file) 8) _ _ (λ e. (lit≤ tt, lit≤ tt))
+      (λ e. either (Tells file) (begins magic file) _ _
+      (λ e. either (Tells file) (ltb (length file) 32) _ _ (λ f. (lit≤ tt, lit≤ tt)) (λ f. sizes-tell (widthOf (getD file (trailerAt file + 6) 0))))
       (λ e. (lit≤ tt, lit≤ tt)))

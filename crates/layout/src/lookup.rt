@@ -60,18 +60,18 @@ pub fn look_up(file: &[u8], layout: Layout, object: u64, place: u64) -> Look
 }
 
 // An object's refusal is the reader's.
-fn refusal_of(refusal: object::read::Refusal) -> Refusal
+fn refusal_of(refusal: object::refusal::Refusal) -> Refusal
     ensures { λ r. ⌜ Same refusal r ⌝ }
 {
     match refusal {
-        object::read::Refusal::EndOfInput => Refusal::EndOfInput,
-        object::read::Refusal::ObjectOffsetTooLarge => Refusal::ObjectOffsetTooLarge,
-        object::read::Refusal::NullObjectUnimplemented => Refusal::NullObjectUnimplemented,
-        object::read::Refusal::FillObjectUnimplemented => Refusal::FillObjectUnimplemented,
-        object::read::Refusal::UnknownObjectType(marker) => Refusal::UnknownObjectType(marker),
-        object::read::Refusal::IntegerOutOfRange => Refusal::IntegerOutOfRange,
-        object::read::Refusal::InvalidUtf8String => Refusal::InvalidUtf8String,
-        object::read::Refusal::InvalidUtf16String => Refusal::InvalidUtf16String,
+        object::refusal::Refusal::EndOfInput => Refusal::EndOfInput,
+        object::refusal::Refusal::ObjectOffsetTooLarge => Refusal::ObjectOffsetTooLarge,
+        object::refusal::Refusal::NullObjectUnimplemented => Refusal::NullObjectUnimplemented,
+        object::refusal::Refusal::FillObjectUnimplemented => Refusal::FillObjectUnimplemented,
+        object::refusal::Refusal::UnknownObjectType(marker) => Refusal::UnknownObjectType(marker),
+        object::refusal::Refusal::IntegerOutOfRange => Refusal::IntegerOutOfRange,
+        object::refusal::Refusal::InvalidUtf8String => Refusal::InvalidUtf8String,
+        object::refusal::Refusal::InvalidUtf16String => Refusal::InvalidUtf16String,
     }
 }
 

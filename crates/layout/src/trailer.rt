@@ -13,7 +13,7 @@ ghost use Prim.Native.Nat.{_+_, _-_, _≤_};
 ghost use lib.ListN.{length, getD};
 ghost use Rattle.number.specs.Width.{widthOf};
 ghost use Rattle.number.specs.Be.{be};
-ghost use Rattle.object.specs.Content.{part};
+ghost use Rattle.number.specs.Part.{part};
 ghost use Rattle.layout.specs.Said.{trailerSaid};
 ghost use Rattle.event.specs.Format.{maxLength};
 ghost use Rattle.layout.specs.Trailer.{trailerIn, trailerOf, sizesOf, tableOf};

@@ -1,7 +1,11 @@
+pub mod Among
 pub mod Be
 pub mod BeLaws
 pub mod Between
 pub mod Cases
+pub mod Either
+pub mod Part
+pub mod PartLaws
 pub mod Read
 pub mod Signed
 pub mod SignedLaws

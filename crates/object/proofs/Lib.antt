@@ -1,3 +1,3 @@
-pub mod Numbers
+pub mod Others
 pub mod Room
 pub mod Wide

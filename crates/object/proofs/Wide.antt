@@ -1,5 +1,5 @@
 -- A number of 16 bytes is below 2 ^ 64 exactly where its high half is zero.
-use mathlib.Core.List.{List, []}
+use mathlib.Core.List.{List}
 use mathlib.Core.Path.{_≡_}
 use Prim.Native.Nat.{ℕ, _+_, _^_, _≤_, _<_}
 use native.Mathlib.Omega.{arith}
@@ -8,12 +8,13 @@ use lib.ListN.{length}
 use Rattle.number.specs.Be.{be}
 use Rattle.event.specs.declared.Event.the-variants.{Integer}
 use Rattle.event.specs.declared.Integer.the-variants.{Unsigned}
-use Rattle.object.specs.Content.{part}
-use Rattle.object.specs.Object.{refused, scalar, wideIn}
-use Rattle.object.specs.PartLaws.{be-part-add}
+use Rattle.number.specs.Part.{part}
+use Rattle.object.specs.declared.refusal.Refusal.the-variants.{IntegerOutOfRange}
+use Rattle.object.specs.Object.{refusedBy, scalar, wideIn}
+use Rattle.number.specs.PartLaws.{be-part-add}
 
 module _ (file : List ℕ) (at : ℕ) (fits : at + 16 ≤ length file) where
-  pub wide-high : (be (part file at 8) ≡ 0 → ⊥) → wideIn (part file at 16) ≡ refused 11 []
+  pub wide-high : (be (part file at 8) ≡ 0 → ⊥) → wideIn (part file at 16) ≡ refusedBy IntegerOutOfRange
   unfolding wideIn
   wide-high n =
       let e = be-part-add file at 8 8 (omega arith) in

@@ -1,41 +1,56 @@
--- The length of an object that has one, and the room it needs.
+-- The length of an object that has one, and the room it needs. docs/FORMAT.md, rules R12 to R14.
 use mathlib.Core.Bool.{Bool, cond}
 use mathlib.Core.List.{List}
 use Prim.Native.Nat.{ℕ, _+_, _-_, _*_, _%_, _^_}
 use lib.Dec.{leb, eqb}
-use lib.ListN.{length, getD, take, drop}
+use lib.ListN.{length, getD}
 use Rattle.number.specs.Be.{be}
+use Rattle.number.specs.Part.{part}
 use Rattle.object.specs.declared.content.Content.{Content}
-use Rattle.object.specs.declared.content.Content.the-variants.{Fits, TooLarge}
+use Rattle.object.specs.declared.content.Content.the-variants.{Fits, Refused}
 use Rattle.object.specs.declared.content.Extent.{Extent}
+use Rattle.object.specs.declared.refusal.Refusal.the-variants.{EndOfInput, ObjectOffsetTooLarge}
 
--- the n bytes of a file from an offset on
-abbrev pub part : List ℕ → ℕ → ℕ → List ℕ
-part file at n = take n (drop at file)
-
--- Document 01: "T is the file length less 32."
+-- T (R1)
 abbrev pub trailerAt : List ℕ → ℕ
 trailerAt file = length file - 32
 
--- Document 01: "the next byte's low two bits alone say 1, 2, 4 or 8 bytes of length"
+-- the two low bits of the byte in front of a length say how many bytes it has: 1, 2, 4 or 8 (R12)
 unfoldable pub lengthWidth : ℕ → ℕ
 lengthWidth byte = 2 ^ (byte % 4)
 
--- Document 01: "Length: low nibble, or if it is 15, the next byte's low two bits alone say 1, 2, 4 or 8 bytes of length." The content
--- stands behind the marker and those bytes
+-- a length is the marker's low half, or if that is 15 it stands behind a byte of its own; the content stands behind it (R12)
 unfoldable pub extentAt : List ℕ → ℕ → ℕ → Extent
 extentAt file offset nibble =
     cond (eqb nibble 15)
     (record { start = offset + 2 + lengthWidth (getD file (offset + 1) 0); count = be (part file (offset + 2) (lengthWidth (getD file (offset + 1) 0))) })
     (record { start = offset + 1; count = nibble })
 
--- Document 01: "Room is measured from the object's own offset, its head not counted: offset + content bytes must be at most T"
+-- what the head of an object with a length tells: where its content stands, or the refusal of the byte in front of the length. No such byte
+-- is refused (R12). All that has a length goes by this: data, both texts, arrays, dictionaries, and an open container that is looked at again
+unfoldable pub headAt : List ℕ → ℕ → ℕ → Content
+headAt file offset nibble = Fits (extentAt file offset nibble)
+
+-- room: the object's own offset plus the size of its content must not be above T (R13)
 unfoldable pub roomFor : List ℕ → ℕ → ℕ → Bool
 roomFor file offset size = leb (offset + size) (trailerAt file)
 
--- the content of an object whose elements have a number of bytes each, where there is room for it
+unfoldable pub measured : List ℕ → ℕ → ℕ → Content → Content
+measured file offset each (Refused r) = Refused r
+measured file offset each (Fits e) = cond (roomFor file offset (e .count * each)) (Fits e) (Refused ObjectOffsetTooLarge)
+
+-- the content of an object whose elements have a number of bytes each
 unfoldable pub contentAt : List ℕ → ℕ → ℕ → ℕ → Content
-contentAt file offset nibble each =
-    cond (roomFor file offset (extentAt file offset nibble .count * each))
-    (Fits (extentAt file offset nibble))
-    TooLarge
+contentAt file offset nibble each = measured file offset each (headAt file offset nibble)
+
+-- a dictionary's room: keys and values must end within the file, and then both together must have room (R14)
+unfoldable pub pairsIn : List ℕ → ℕ → ℕ → Content → Content
+pairsIn file offset each (Refused r) = Refused r
+pairsIn file offset each (Fits e) =
+    cond (leb (e .start + 2 * (e .count * each)) (length file))
+    (cond (roomFor file offset (2 * (e .count * each))) (Fits e) (Refused ObjectOffsetTooLarge))
+    (Refused EndOfInput)
+
+-- the content of a dictionary: its keys are measured first, as an array is (R14)
+unfoldable pub pairsAt : List ℕ → ℕ → ℕ → ℕ → Content
+pairsAt file offset nibble each = pairsIn file offset each (contentAt file offset nibble each)

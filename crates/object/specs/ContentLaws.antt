@@ -6,11 +6,14 @@ use Prim.Native.Nat.{ℕ, _+_, _*_, _%_, _≤_, _<_}
 use native.Mathlib.Nat.{one-le-pow, pow-le-pow-right}
 use native.Mathlib.Omega.{arith}
 use borrow.Author.Tests.{leb-true}
-use lib.Dec.{eqb, lit<}
-use lib.ListN.{getD}
-use Rattle.object.specs.Content.{trailerAt, lengthWidth, extentAt, roomFor, contentAt}
-use Rattle.object.specs.declared.content.Content.the-variants.{Fits, TooLarge}
+use lib.Dec.{leb, eqb, lit<}
+use lib.ListN.{length, getD}
+use Rattle.number.specs.Either.{either}
+use Rattle.object.specs.Content.{trailerAt, lengthWidth, extentAt, headAt, roomFor, measured, contentAt, pairsIn, pairsAt}
+use Rattle.object.specs.declared.content.Content.the-variants.{Fits, Refused}
+use Rattle.object.specs.declared.content.Content.{Content}
 use Rattle.object.specs.declared.content.Extent.{Extent}
+use Rattle.object.specs.declared.refusal.Refusal.{Refusal}
 
 -- a length has 1 to 8 bytes
 pub lengthWidth-pos : (byte : ℕ) → 0 < lengthWidth byte
@@ -21,42 +24,73 @@ pub lengthWidth-le : (byte : ℕ) → lengthWidth byte ≤ 8
 unfolding lengthWidth
 lengthWidth-le byte = pow-le-pow-right {n = 2} (lit< tt) (let h : byte % 4 ≤ 3 = omega arith in h)
 
--- what holds of both answers of a test holds of the answer
-either : {A : Type 0} (P : A → Type 0) (b : Bool) (x y : A) → P x → P y → P (cond b x y)
-either P true x y p q = p
-either P false x y p q = q
-
 -- content begins behind the marker, and within ten bytes of it
 pub start-above : (file : List ℕ) (offset nibble : ℕ) → offset < extentAt file offset nibble .start
 unfolding extentAt
-start-above file offset nibble = either (λ (e : Extent). offset < e .start) (eqb nibble 15) _ _ (omega arith) (omega arith)
+start-above file offset nibble = either (λ (e : Extent). offset < e .start) (eqb nibble 15) _ _ (λ t. omega arith) (λ t. omega arith)
 
 pub start-below : (file : List ℕ) (offset nibble : ℕ) → extentAt file offset nibble .start ≤ offset + 10
 unfolding extentAt
-start-below file offset nibble = either (λ (e : Extent). e .start ≤ offset + 10) (eqb nibble 15) _ _ (omega (arith, lengthWidth-le (getD file (offset + 1) 0))) (omega arith)
+start-below file offset nibble =
+    either (λ (e : Extent). e .start ≤ offset + 10) (eqb nibble 15) _ _ (λ t. omega (arith, lengthWidth-le (getD file (offset + 1) 0))) (λ t. omega arith)
 
--- what is known of an extent that has room
-pub record Fitting (file : List ℕ) (offset nibble each : ℕ) (e : Extent) : Type 0 where
-  pub is : e ≡ extentAt file offset nibble
-  pub room : offset + e .count * each ≤ trailerAt file
-  pub above : offset < e .start
-  pub below : e .start ≤ offset + 10
+-- content that is refused doesn't fit
+pub not-fits : (r : Refusal) (e : Extent) → Refused r ≡ Fits e → ⊥
+not-fits r e h = let z : _≡_ {A = ℕ} 0 1 = cc in omega arith
 
-pub fitting : (file : List ℕ) (offset nibble each : ℕ) (e : Extent) → contentAt file offset nibble each ≡ Fits e → Fitting file offset nibble each e
-unfolding contentAt roomFor
-fitting file offset nibble each e h = go (roomFor file offset (extentAt file offset nibble .count * each)) refl
-  where
-    go : (b : Bool) → roomFor file offset (extentAt file offset nibble .count * each) ≡ b → Fitting file offset nibble each e
-    go true t =
-        let s : Fits (extentAt file offset nibble) ≡ Fits e = rw t at h in
-        let i : e ≡ extentAt file offset nibble = cc in
-        record {
-          is = i;
-          room = rw i (leb-true _ _ t);
-          above = rw i (start-above file offset nibble);
-          below = rw i (start-below file offset nibble);
-        }
-    go false t =
-        let s : TooLarge ≡ Fits e = rw t at h in
-        let z : _≡_ {A = ℕ} 0 1 = cc in
-        absurd (omega arith)
+-- a test whose other answer is a refusal, and that gave an extent
+fits-by : (b : Bool) (x : Content) (r : Refusal) (e : Extent) → cond b x (Refused r) ≡ Fits e → (b ≡ true) × (x ≡ Fits e)
+fits-by true x r e h = (refl, h)
+fits-by false x r e h = absurd (not-fits r e h)
+
+module _ (file : List ℕ) (offset nibble : ℕ) (e : Extent) where
+  -- what the head tells
+  head-is : headAt file offset nibble ≡ Fits e → e ≡ extentAt file offset nibble
+  unfolding headAt
+  head-is h = cc
+
+  -- what is known of an extent that has room
+  pub record Fitting (each : ℕ) : Type 0 where
+    pub head : headAt file offset nibble ≡ Fits e
+    pub is : e ≡ extentAt file offset nibble
+    pub room : offset + e .count * each ≤ trailerAt file
+    pub above : offset < e .start
+    pub below : e .start ≤ offset + 10
+
+  pub fitting : (each : ℕ) → contentAt file offset nibble each ≡ Fits e → Fitting each
+  unfolding contentAt measured roomFor
+  fitting each h = go (headAt file offset nibble) refl h
+    where
+      go : (x : Content) → headAt file offset nibble ≡ x → measured file offset each x ≡ Fits e → Fitting each
+      go (Refused r) t g = absurd (not-fits r e g)
+      go (Fits d) t g =
+          let f = fits-by (roomFor file offset (d .count * each)) (Fits d) _ e g in
+          let s : Fits d ≡ Fits e = f .1 in
+          let i : d ≡ e = cc in
+          let k : headAt file offset nibble ≡ Fits e = rw (← i) t in
+          let j : e ≡ extentAt file offset nibble = head-is k in
+          record {
+            head = k;
+            is = j;
+            room = rw (← i) (leb-true _ _ (f .0));
+            above = rw j (start-above file offset nibble);
+            below = rw j (start-below file offset nibble);
+          }
+
+  -- and of one that has room for pairs
+  pub record Pairing (each : ℕ) : Type 0 where
+    pub fits : Fitting each
+    pub inside : e .start + 2 * (e .count * each) ≤ length file
+
+  pub pairing : (each : ℕ) → pairsAt file offset nibble each ≡ Fits e → Pairing each
+  unfolding pairsAt pairsIn
+  pairing each h = go (contentAt file offset nibble each) refl h
+    where
+      go : (x : Content) → contentAt file offset nibble each ≡ x → pairsIn file offset each x ≡ Fits e → Pairing each
+      go (Refused r) t g = absurd (not-fits r e g)
+      go (Fits d) t g =
+          let f = fits-by (leb (d .start + 2 * (d .count * each)) (length file)) _ _ e g in
+          let k = fits-by (roomFor file offset (2 * (d .count * each))) (Fits d) _ e (f .1) in
+          let s : Fits d ≡ Fits e = k .1 in
+          let i : d ≡ e = cc in
+          record { fits = fitting each (rw (← i) t); inside = rw (← i) (leb-true _ _ (f .0)) }

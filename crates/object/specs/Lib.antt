@@ -7,6 +7,8 @@ pub mod Found
 pub mod FoundLaws
 pub mod Kind
 pub mod KindLaws
+pub mod KnownLaws
 pub mod Object
 pub mod ObjectLaws
-pub mod PartLaws
+pub mod Refusal
+pub mod RefusalLaws

@@ -1,6 +1,9 @@
 // The container at an offset, looked at again once it is open: where its references stand and how many there are.
+use crate::content::Content;
 use crate::content::Extent;
-use crate::content::extent_at;
+use crate::content::head_at;
+use crate::kind::Kind;
+use crate::kind::kind_of;
 ghost use mathlib.Core.Path.{_≡_};
 ghost use Rattle.object.specs.Container.{containerAt};
 
@@ -19,10 +22,19 @@ pub fn container_at(file: &[u8], offset: usize) -> Container
     if file.len() - 32 <= offset {
         return Container::NoContainer;
     }
-    let marker = file[offset];
-    match marker {
-        0xa0..=0xaf => Container::Array(extent_at(file, offset, marker - 0xa0)),
-        0xd0..=0xdf => Container::Dictionary(extent_at(file, offset, marker - 0xd0)),
+    match kind_of(file[offset]) {
+        Kind::Array(nibble) => {
+            let Content::Fits(extent) = head_at(file, offset, nibble) else {
+                return Container::NoContainer;
+            };
+            Container::Array(extent)
+        }
+        Kind::Dictionary(nibble) => {
+            let Content::Fits(extent) = head_at(file, offset, nibble) else {
+                return Container::NoContainer;
+            };
+            Container::Dictionary(extent)
+        }
         _ => Container::NoContainer,
     }
 }

@@ -1,10 +1,12 @@
 // The length of an object that has one, and whether there is room for it.
+use crate::refusal::Refusal;
 use number::be::Number;
 ghost use mathlib.Core.Path.{_≡_};
 ghost use Prim.Native.Nat.{_+_, _*_, _≤_, _<_};
 ghost use lib.ListN.{length};
 ghost use Rattle.number.specs.Be.{be};
-ghost use Rattle.object.specs.Content.{part, lengthWidth, extentAt, roomFor, contentAt};
+ghost use Rattle.number.specs.Part.{part};
+ghost use Rattle.object.specs.Content.{lengthWidth, extentAt, headAt, roomFor, contentAt, pairsAt};
 
 // Where the content of an object stands, and how many elements it has: bytes, units, references or pairs.
 pub struct Extent {
@@ -14,7 +16,7 @@ pub struct Extent {
 
 pub enum Content {
     Fits(Extent),
-    TooLarge,
+    Refused(Refusal),
 }
 
 // How many bytes a length has, by the byte in front of it.
@@ -41,7 +43,7 @@ pub(crate) fn be_at(file: &[u8], at: usize, width: usize) -> u64
 }
 
 // The extent of an object whose marker has these low four bits; its head lies within the file.
-pub(crate) fn extent_at(file: &[u8], offset: usize, nibble: u8) -> Extent
+fn extent_at(file: &[u8], offset: usize, nibble: u8) -> Extent
     requires { ⌜ offset + 10 ≤ length (now file) ⌝ }
     ensures { λ r. ⌜ r ≡ extentAt (now (file .entry)) offset nibble ⌝ }
 {
@@ -59,6 +61,14 @@ pub(crate) fn extent_at(file: &[u8], offset: usize, nibble: u8) -> Extent
     }
 }
 
+// What such an object's head tells: its extent, or the refusal of the byte in front of its length. No such byte is refused.
+pub(crate) fn head_at(file: &[u8], offset: usize, nibble: u8) -> Content
+    requires { ⌜ offset + 10 ≤ length (now file) ⌝ }
+    ensures { λ r. ⌜ r ≡ headAt (now (file .entry)) offset nibble ⌝ }
+{
+    Content::Fits(extent_at(file, offset, nibble))
+}
+
 // Whether content of so many elements, of so many bytes each, has room behind an object's offset.
 fn has_room(file: &[u8], offset: usize, count: u64, each: usize) -> bool
     requires { ⌜ (offset + 32 ≤ length (now file)) × (0 < each) ⌝ }
@@ -73,9 +83,33 @@ pub(crate) fn content_at(file: &[u8], offset: usize, nibble: u8, each: usize) ->
     requires { ⌜ (offset + 32 ≤ length (now file)) × (0 < each) ⌝ }
     ensures { λ r. ⌜ r ≡ contentAt (now (file .entry)) offset nibble each ⌝ }
 {
-    let extent = extent_at(file, offset, nibble);
-    if has_room(file, offset, extent.count, each) {
-        return Content::Fits(extent);
+    match head_at(file, offset, nibble) {
+        Content::Refused(refusal) => Content::Refused(refusal),
+        Content::Fits(extent) => {
+            if has_room(file, offset, extent.count, each) {
+                return Content::Fits(extent);
+            }
+            Content::Refused(Refusal::ObjectOffsetTooLarge)
+        }
     }
-    Content::TooLarge
+}
+
+// The content of a dictionary. Its keys have room; its values may run past the file's end, and both together past the trailer.
+pub(crate) fn pairs_at(file: &[u8], offset: usize, nibble: u8, each: usize) -> Content
+    requires { ⌜ (offset + 32 ≤ length (now file)) × (0 < each) ⌝ }
+    ensures { λ r. ⌜ r ≡ pairsAt (now (file .entry)) offset nibble each ⌝ }
+{
+    match content_at(file, offset, nibble, each) {
+        Content::Refused(refusal) => Content::Refused(refusal),
+        Content::Fits(extent) => {
+            let both = 2 * (extent.count as usize * each);
+            if file.len() < extent.start + both {
+                return Content::Refused(Refusal::EndOfInput);
+            }
+            if file.len() - 32 < offset + both {
+                return Content::Refused(Refusal::ObjectOffsetTooLarge);
+            }
+            Content::Fits(extent)
+        }
+    }
 }

@@ -3,3 +3,4 @@ pub mod container;
 pub mod content;
 pub mod kind;
 pub mod read;
+pub mod refusal;

@@ -2,8 +2,10 @@
 use crate::content::Content;
 use crate::content::be_at;
 use crate::content::content_at;
+use crate::content::pairs_at;
 use crate::kind::Kind;
 use crate::kind::kind_of;
+use crate::refusal::Refusal;
 use event::Event;
 use event::Integer;
 use event::real::real_of;
@@ -16,9 +18,10 @@ use unicode::utf16::is_utf16;
 ghost use mathlib.Core.Path.{_≡_};
 ghost use Prim.Native.Nat.{_+_, _≤_};
 ghost use lib.ListN.{length};
+ghost use Rattle.number.specs.Part.{part};
 ghost use Rattle.number.specs.Width.{bytesIn};
 ghost use Rattle.event.specs.declared.Event.the-variants.{Integer as IntegerEvent};
-ghost use Rattle.object.specs.Content.{part, contentAt};
+ghost use Rattle.object.specs.Content.{contentAt, pairsAt};
 ghost use Rattle.object.specs.Found.{foundOf};
 ghost use Rattle.object.specs.Object.{scalar, objectAt, wideIn, dataIn, utf8In, utf16In, arrayIn, dictionaryIn};
 
@@ -26,18 +29,6 @@ ghost use Rattle.object.specs.Object.{scalar, objectAt, wideIn, dataIn, 
 pub struct Part {
     pub start: usize,
     pub length: usize,
-}
-
-// Why there is no object, by the names of document 01.
-pub enum Refusal {
-    EndOfInput,
-    ObjectOffsetTooLarge,
-    NullObjectUnimplemented,
-    FillObjectUnimplemented,
-    UnknownObjectType(u8),
-    IntegerOutOfRange,
-    InvalidUtf8String,
-    InvalidUtf16String,
 }
 
 // Outside is an offset at or above the trailer. A container has its number of elements or pairs.
@@ -104,70 +95,65 @@ fn data_at(file: &[u8], offset: usize, nibble: u8) -> Object
     requires { ⌜ offset + 32 ≤ length (now file) ⌝ }
     ensures { λ r. ⌜ foundOf r ≡ dataIn (contentAt (now (file .entry)) offset nibble 1) ⌝ }
 {
-    let Content::Fits(extent) = content_at(file, offset, nibble, 1) else {
-        return Object::Refused(Refusal::ObjectOffsetTooLarge);
-    };
-    Object::Data(Part {
-        start: extent.start,
-        length: extent.count as usize,
-    })
+    match content_at(file, offset, nibble, 1) {
+        Content::Refused(refusal) => Object::Refused(refusal),
+        Content::Fits(extent) => Object::Data(Part {
+            start: extent.start,
+            length: extent.count as usize,
+        }),
+    }
 }
 
 fn utf8_at(file: &[u8], offset: usize, nibble: u8) -> Object
     requires { ⌜ offset + 32 ≤ length (now file) ⌝ }
     ensures { λ r. ⌜ foundOf r ≡ utf8In (now (file .entry)) (contentAt (now (file .entry)) offset nibble 1) ⌝ }
 {
-    let Content::Fits(extent) = content_at(file, offset, nibble, 1) else {
-        return Object::Refused(Refusal::ObjectOffsetTooLarge);
-    };
-    let start = extent.start;
-    let length = extent.count as usize;
-    if is_utf8(&file[start..start + length]) {
-        return Object::Utf8(Part { start, length });
+    match content_at(file, offset, nibble, 1) {
+        Content::Refused(refusal) => Object::Refused(refusal),
+        Content::Fits(extent) => {
+            let start = extent.start;
+            let length = extent.count as usize;
+            if is_utf8(&file[start..start + length]) {
+                return Object::Utf8(Part { start, length });
+            }
+            Object::Refused(Refusal::InvalidUtf8String)
+        }
     }
-    Object::Refused(Refusal::InvalidUtf8String)
 }
 
 fn utf16_at(file: &[u8], offset: usize, nibble: u8) -> Object
     requires { ⌜ offset + 32 ≤ length (now file) ⌝ }
     ensures { λ r. ⌜ foundOf r ≡ utf16In (now (file .entry)) (contentAt (now (file .entry)) offset nibble 2) ⌝ }
 {
-    let Content::Fits(extent) = content_at(file, offset, nibble, 2) else {
-        return Object::Refused(Refusal::ObjectOffsetTooLarge);
-    };
-    let start = extent.start;
-    let length = extent.count as usize * 2;
-    if is_utf16(&file[start..start + length]) {
-        return Object::Utf16(Part { start, length });
+    match content_at(file, offset, nibble, 2) {
+        Content::Refused(refusal) => Object::Refused(refusal),
+        Content::Fits(extent) => {
+            let start = extent.start;
+            let length = extent.count as usize * 2;
+            if is_utf16(&file[start..start + length]) {
+                return Object::Utf16(Part { start, length });
+            }
+            Object::Refused(Refusal::InvalidUtf16String)
+        }
     }
-    Object::Refused(Refusal::InvalidUtf16String)
 }
 
 fn array_at(file: &[u8], refs: Width, offset: usize, nibble: u8) -> Object
     requires { ⌜ offset + 32 ≤ length (now file) ⌝ }
     ensures { λ r. ⌜ foundOf r ≡ arrayIn (contentAt (now (file .entry)) offset nibble (bytesIn refs)) ⌝ }
 {
-    let Content::Fits(extent) = content_at(file, offset, nibble, bytes_in(refs)) else {
-        return Object::Refused(Refusal::ObjectOffsetTooLarge);
-    };
-    Object::Array(extent.count)
+    match content_at(file, offset, nibble, bytes_in(refs)) {
+        Content::Refused(refusal) => Object::Refused(refusal),
+        Content::Fits(extent) => Object::Array(extent.count),
+    }
 }
 
-// The keys have room; the values may run past the file's end, and both together past the trailer.
 fn dictionary_at(file: &[u8], refs: Width, offset: usize, nibble: u8) -> Object
     requires { ⌜ offset + 32 ≤ length (now file) ⌝ }
-    ensures { λ r. ⌜ foundOf r ≡ dictionaryIn (now (file .entry)) offset (bytesIn refs) (contentAt (now (file .entry)) offset nibble (bytesIn refs)) ⌝ }
+    ensures { λ r. ⌜ foundOf r ≡ dictionaryIn (pairsAt (now (file .entry)) offset nibble (bytesIn refs)) ⌝ }
 {
-    let each = bytes_in(refs);
-    let Content::Fits(extent) = content_at(file, offset, nibble, each) else {
-        return Object::Refused(Refusal::ObjectOffsetTooLarge);
-    };
-    let both = 2 * (extent.count as usize * each);
-    if file.len() < extent.start + both {
-        return Object::Refused(Refusal::EndOfInput);
+    match pairs_at(file, offset, nibble, bytes_in(refs)) {
+        Content::Refused(refusal) => Object::Refused(refusal),
+        Content::Fits(extent) => Object::Dictionary(extent.count),
     }
-    if file.len() - 32 < offset + both {
-        return Object::Refused(Refusal::ObjectOffsetTooLarge);
-    }
-    Object::Dictionary(extent.count)
 }

@@ -12,14 +12,14 @@ use Rattle.event.specs.declared.Event.the-variants as event
 use Rattle.event.specs.Same.{same}
 use Rattle.event.specs.declared.Length.the-variants.{Given}
 use Rattle.object.specs.Container.{containerAt}
-use Rattle.object.specs.Content.{part}
+use Rattle.number.specs.Part.{part}
 use Rattle.object.specs.Object.{Found, objectAt}
 use Rattle.object.specs.Object as found
 use Rattle.object.specs.declared.container.Container.{Container}
 use Rattle.object.specs.declared.container.Container.the-variants.{Array, Dictionary, NoContainer}
 use Rattle.layout.specs.Bytes.{Asked, inFile, inUtf16, noBytes, denied, dataAsked, textAsked, givenIf, scalarAsked, startAsked, endAsked, eventAsked}
 use Rattle.layout.specs.FoundLaws.{Sound, sound}
-use Rattle.layout.specs.TestLaws.{by-test}
+use Rattle.number.specs.Either.{either}
 use Rattle.reader.specs.Request.{askedOf}
 use Rattle.reader.specs.State.{maxLength}
 use Rattle.reader.specs.declared.answer.Record.{Record}
@@ -98,4 +98,4 @@ event-asked file (event.Uid n) offset = scalar-asked file _ (objectAt file One o
 -- the bytes that a record asks for lie within the file
 pub asked-in : (file : List ℕ) (r : Record) → AskedIn file (askedOf file r)
 unfolding askedOf
-asked-in file r = by-test (AskedIn file) (ltb maxLength (length file)) _ _ (λ h. tt) (λ h. event-asked file (r .event) (r .offset))
+asked-in file r = either (AskedIn file) (ltb maxLength (length file)) _ _ (λ h. tt) (λ h. event-asked file (r .event) (r .offset))

@@ -14,7 +14,7 @@ use Rattle.unicode.specs.declared.changed.Changed.{Changed}
 use Rattle.unicode.specs.declared.changed.Changed.the-variants.{Written, NotText, NoRoom}
 use Rattle.unicode.specs.declared.utf16.Utf8Length.{Utf8Length}
 use Rattle.unicode.specs.declared.utf16.Utf8Length.the-variants.{Bytes, NotUtf16}
-use Rattle.object.specs.Content.{part}
+use Rattle.number.specs.Part.{part}
 use Rattle.layout.specs.Bytes.{inUtf16}
 use Rattle.reader.specs.Request.{long, refusing, lengthSaid, scratchAfter, partSaid}
 

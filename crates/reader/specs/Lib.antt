@@ -3,6 +3,7 @@ pub mod Machine
 pub mod Meanings
 pub mod Next
 pub mod NextLaws
+pub mod Refusals
 pub mod Request
 pub mod Said
 pub mod SaidLaws

@@ -4,7 +4,7 @@ use Prim.Native.Nat.{ℕ, zero, suc}
 use Rattle.unicode.specs.Unicode.{toUtf8}
 use Rattle.event.specs.Meaning.{Meaning, meaningOf}
 use Rattle.event.specs.declared.Event.{Event}
-use Rattle.object.specs.Content.{part}
+use Rattle.number.specs.Part.{part}
 use Rattle.layout.specs.Bytes.{Asked, inFile, inUtf16, noBytes, denied, eventAsked}
 use Rattle.reader.specs.Machine as Machine
 use Rattle.reader.specs.Machine.{Said}

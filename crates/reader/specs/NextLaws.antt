@@ -9,10 +9,10 @@ use lib.Dec.{ltb, eqb}
 use lib.ListN.{length}
 use Rattle.number.specs.Width.{widthOf}
 use Rattle.number.specs.declared.width.Size.the-variants.{Allowed}
-use Rattle.layout.specs.FoundLaws.{Faults, faults-below}
 use Rattle.layout.specs.Layout.{dueOf, sourceOf}
 use Rattle.layout.specs.LookLaws.{Looked-right}
 use Rattle.layout.specs.Looked.{Looked, barred, missing, faulty, scalar, container, withPlace}
+use Rattle.layout.specs.Refusals.{Faults, file-refusal, file-not}
 use Rattle.layout.specs.Trailer.{keeps, trailerOf, trailerIn}
 use Rattle.layout.specs.declared.layout.Layout.{Layout}
 use Rattle.reader.specs.Machine.{Step, ended, refused, step, refuse, wrongFile, refusedIn, arrive, follow, stepOf}
@@ -39,7 +39,7 @@ refusedIn-answer r number values place = go (eqb number 17)
 -- the numbers that an object is refused with end
 refusedIn-ends : (r : Reader) (number : ℕ) (values : List ℕ) (place : ℕ) → Faults number → refuse number values place ≡ refusedIn r number values place
 unfolding refusedIn
-refusedIn-ends r number values place h = sym (no _ _ (ne-eqb number 17 (λ e. omega (arith, faults-below number h))))
+refusedIn-ends r number values place h = sym (no _ _ (ne-eqb number 17 (file-not number 17 (file-refusal number h) (omega arith) (omega arith))))
 
 -- what is refused where it is looked up is refused with that place
 module _ (file : List ℕ) (l : Layout) (r : Reader) (object number : ℕ) (values : List ℕ) (place : ℕ) where

@@ -6,6 +6,7 @@ use mathlib.Core.Path.{_≡_}
 use Prim.Native.Nat.{ℕ, _<_, _^_}
 use lib.IntN.{pos, negsuc}
 use lib.ListN.{length}
+use Rattle.event.specs.Date.{isDate}
 use Rattle.event.specs.Meaning.{Meaning, array, dictionary, close, boolean, bytes, date, integer, real, text, uid}
 use Rattle.number.specs.Be.{bytesOf}
 use Rattle.tape.specs.Seven.{seven}
@@ -43,14 +44,14 @@ InRange (real b) = b < 2 ^ 64
 InRange (text s) = length s < 2 ^ 64
 InRange (uid n) = n < 2 ^ 64
 
--- what the tape takes: text that is UTF-8, and all that is no text
+-- what the tape takes: text that is UTF-8, dates whose bits may be a date's, and all that is neither
 unfoldable pub allowed : Meaning → Bool
 allowed (array n) = true
 allowed (dictionary n) = true
 allowed close = true
 allowed (boolean b) = true
 allowed (bytes s) = true
-allowed (date b) = true
+allowed (date b) = isDate b
 allowed (integer z) = true
 allowed (real b) = true
 allowed (text s) = isUtf8 s

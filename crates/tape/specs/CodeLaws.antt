@@ -15,9 +15,10 @@ use Rattle.event.specs.RealLaws.{real-bits}
 use Rattle.number.specs.Be.{bytesOf}
 use Rattle.number.specs.BeLaws.{be-bytesOf, length-bytesOf}
 use Rattle.tape.specs.Code.{bytesFor, allowed, OnTape}
-use Rattle.tape.specs.Item.{plain, bytesAt, numbered, negative, dataIn, textIn, ofKind, itemAt, meaningIn, event, readingOf, readAt}
+use Rattle.tape.specs.Item.{plain, bytesAt, numbered, negative, dateIn, dataIn, textIn, ofKind, itemAt, meaningIn, event, readingOf, readAt}
 use Rattle.tape.specs.Seven.{seven}
-use Rattle.tape.specs.Value.{part, numberAt, eightAt}
+use Rattle.number.specs.Part.{part}
+use Rattle.tape.specs.Value.{numberAt, eightAt}
 use Rattle.tape.specs.ValueLaws.{number-seven}
 use Rattle.tape.specs.declared.value.Value.the-variants.{Of}
 use Rattle.unicode.specs.Unicode.{isUtf8}
@@ -93,7 +94,7 @@ module _ (p : List ℕ) (k : ℕ) (s q : List ℕ) where
 
 -- an event's bytes are read as that event, whatever stands in front of them and behind
 pub reads-back : (p : List ℕ) (m : Meaning) (q : List ℕ) → OnTape m → readAt (p ++ (bytesFor m ++ q)) (length p) ≡ event m (length p + length (bytesFor m))
-unfolding run bytesFor allowed readAt readingOf ofKind plain bytesAt numbered negative dataIn textIn meaningIn meaningOf valueOf givenOf
+unfolding run bytesFor allowed readAt readingOf ofKind plain bytesAt numbered negative dateIn dataIn textIn meaningIn meaningOf valueOf givenOf
 reads-back p (array none) q h = rw (kind-at p 0x0A q)
 reads-back p (array (some n)) q h = rw (kind-at p 0x0B (seven n ++ q), number-behind p 0x0B n q (h .0))
 reads-back p (dictionary none) q h = rw (kind-at p 0x0C q)
@@ -106,7 +107,7 @@ reads-back p (integer (negsuc k)) q h =
     let l : k < 2 ^ 63 = omega (arith, h .0) in
     rw (kind-at p 0x04 (seven k ++ q), number-behind p 0x04 k q (omega arith), lt-ltb k (2 ^ 63) l)
 reads-back p (real b) q h = rw (kind-at p 0x05 (bytesOf 8 b ++ q), eight-behind p 0x05 b q (h .0)) (ap (λ (m : Meaning). event m (length p + suc (length (bytesOf 8 b)))) (real-bits b _ (h .0)))
-reads-back p (date b) q h = rw (kind-at p 0x06 (bytesOf 8 b ++ q), eight-behind p 0x06 b q (h .0))
+reads-back p (date b) q h = rw (kind-at p 0x06 (bytesOf 8 b ++ q), eight-behind p 0x06 b q (h .0), dateIn, h .1)
 reads-back p (uid n) q h = rw (kind-at p 0x07 (seven n ++ q), number-behind p 0x07 n q (h .0))
 reads-back p (bytes s) q h =
     kind-reads p 0x08 s q ∙ rw (run-number p 0x08 s q (h .0), run-room p 0x08 s q) (ap₂ event (ap bytes (run-part p 0x08 s q)) (run-end p 0x08 s q))

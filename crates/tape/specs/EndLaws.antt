@@ -8,12 +8,15 @@ use native.Mathlib.Omega.{arith}
 use borrow.Author.Tests.{lt-ltb, le-ltb, ne-eqb, eqb-true}
 use lib.Dec.{ltb, leb, eqb, lit<}
 use lib.ListN.{length, getD}
+use Rattle.number.specs.Be.{be}
+use Rattle.event.specs.Date.{isDate}
 use Rattle.event.specs.Meaning.{Meaning}
 use Rattle.event.specs.declared.Event.{Event}
 use Rattle.tape.specs.End.{afterSize, afterNumber, afterNegative, afterBytes, endBehind, endOf}
-use Rattle.tape.specs.Item.{plain, numbered, negative, bytesAt, dataIn, textIn, ofKind, itemAt, event, readAt}
+use Rattle.tape.specs.Item.{plain, numbered, negative, dateIn, bytesAt, dataIn, textIn, ofKind, itemAt, event, readAt}
 use Rattle.tape.specs.ItemLaws.{reads-item}
-use Rattle.tape.specs.Value.{part, eightAt}
+use Rattle.number.specs.Part.{part}
+use Rattle.tape.specs.Value.{eightAt}
 use Rattle.tape.specs.declared.end.End.{End}
 use Rattle.tape.specs.declared.end.End.the-variants.{At, NoEvent}
 use Rattle.tape.specs.declared.item.Item.{Item}
@@ -51,6 +54,14 @@ module _ (tape : List ℕ) where
       go true e = rw e
       go false e = rw e tt
 
+  ends-date : (at : ℕ) → Ends (dateIn (eightAt tape at)) (afterSize (length tape) at 8)
+  unfolding dateIn plain eightAt afterSize
+  ends-date at = go (leb (at + 8) (length tape)) refl
+    where
+      go : (b : Bool) → leb (at + 8) (length tape) ≡ b → Ends (dateIn (eightAt tape at)) (afterSize (length tape) at 8)
+      go true e = rw (e, dateIn) (ends-if (isDate (be (part tape at 8))) _ _ _ (λ d. refl) tt)
+      go false e = rw e tt
+
   ends-data : (v : Value) → Ends (dataIn tape v) (afterBytes (length tape) v)
   unfolding dataIn bytesAt afterBytes afterSize
   ends-data (Of n at) = ends-if (leb (at + n) (length tape)) _ _ _ (λ e. rw e) tt
@@ -69,7 +80,7 @@ module _ (tape : List ℕ) where
       (ends-if (eqb k 0x03) _ _ _ (λ e. rw (eqb-true k 0x03 e) (ends-numbered _ _))
       (ends-if (eqb k 0x04) _ _ _ (λ e. rw (eqb-true k 0x04 e) (ends-negative _))
       (ends-if (eqb k 0x05) _ _ _ (λ e. rw (eqb-true k 0x05 e) (ends-eight _ at))
-      (ends-if (eqb k 0x06) _ _ _ (λ e. rw (eqb-true k 0x06 e) (ends-eight _ at))
+      (ends-if (eqb k 0x06) _ _ _ (λ e. rw (eqb-true k 0x06 e) (ends-date at))
       (ends-if (eqb k 0x07) _ _ _ (λ e. rw (eqb-true k 0x07 e) (ends-numbered _ _))
       (ends-if (eqb k 0x08) _ _ _ (λ e. rw (eqb-true k 0x08 e) (ends-data _))
       (ends-if (eqb k 0x09) _ _ _ (λ e. rw (eqb-true k 0x09 e) (ends-text _))

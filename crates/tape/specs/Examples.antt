@@ -6,13 +6,14 @@ use mathlib.Core.Path.{_≡_, refl}
 use Prim.Native.Nat.{ℕ}
 use lib.Ieee.{nanBits, isNan, ofBits, toBits}
 use lib.IntN.{pos, negsuc}
+use Rattle.event.specs.Date.{isDate}
 use Rattle.event.specs.Meaning.{Meaning, array, dictionary, close, boolean, bytes, date, integer, real, text, uid, meaningOf, valueOf, givenOf}
 use Rattle.event.specs.Real.{realOf, floatBits}
 use Rattle.number.specs.Be.{be, onto as digit, bytesOf}
 use Rattle.tape.specs.Append.{held, refused, fits, putOf, putTo, appendOf, appendTo}
 use Rattle.tape.specs.Code.{bytesFor, allowed}
 use Rattle.tape.specs.Events.{whole, broken, before, eventsFrom, eventsOf}
-use Rattle.tape.specs.Item.{plain, bytesAt, numbered, negative, dataIn, textIn, ofKind, itemAt, meaningIn, bad, readingOf, readAt}
+use Rattle.tape.specs.Item.{plain, bytesAt, numbered, negative, dateIn, dataIn, textIn, ofKind, itemAt, meaningIn, bad, readingOf, readAt}
 use Rattle.tape.specs.Seven.{groups, seven}
 use Rattle.tape.specs.Value.{onto, numberFrom, numberAt, eightAt}
 use Rattle.unicode.specs.Unicode.{isUtf8, wellFormed, rowOf, table, within}
@@ -74,7 +75,7 @@ unfolding bytesFor bytesOf seven groups
 written = refl
 
 pub read : map eventsOf tapes ≡ map (λ (m : Meaning). whole (m ∷ [])) meanings
-unfolding eventsOf eventsFrom before readAt readingOf itemAt ofKind plain bytesAt numbered negative dataIn textIn meaningIn meaningOf valueOf givenOf realOf floatBits nanBits isNan ofBits toBits numberAt numberFrom onto eightAt be digit isUtf8 wellFormed rowOf table within
+unfolding eventsOf eventsFrom before readAt readingOf itemAt ofKind plain bytesAt numbered negative dateIn isDate dataIn textIn meaningIn meaningOf valueOf givenOf realOf floatBits nanBits isNan ofBits toBits numberAt numberFrom onto eightAt be digit isUtf8 wellFormed rowOf table within
 read = refl
 
 -- no byte; kinds 00 and 0F; 0 in two groups; 2^64; eleven groups; a number that doesn't end; -1 - 2^63; 7 bytes of a real; data that is
@@ -95,7 +96,7 @@ pub not-events :
     (0x09 ∷ 0x02 ∷ 0xC0 ∷ 0x80 ∷ []) ∷
     []) ≡
     (bad ∷ bad ∷ bad ∷ bad ∷ bad ∷ bad ∷ bad ∷ bad ∷ bad ∷ bad ∷ bad ∷ bad ∷ [])
-unfolding readAt readingOf itemAt ofKind plain bytesAt numbered negative dataIn textIn numberAt numberFrom onto eightAt isUtf8 wellFormed rowOf table within
+unfolding readAt readingOf itemAt ofKind plain bytesAt numbered negative dateIn isDate dataIn textIn numberAt numberFrom onto eightAt isUtf8 wellFormed rowOf table within
 not-events = refl
 
 -- P10 of docs/FORMAT.md as a tape, and a tape that is bad behind its first event

@@ -12,20 +12,22 @@ use lib.Dec.{ltb, leb, eqb}
 use lib.IntN.{pos}
 use lib.ListN.{length, getD, drop, length-append, take-append-drop}
 use lib.Seq.{drop-at, drop-cons, drop-drop}
-use Rattle.event.specs.Meaning.{Meaning, array, dictionary, close, boolean, date, integer, real, uid, meaningOf, valueOf, givenOf, bytes, text}
+use Rattle.event.specs.Date.{isDate}
+use Rattle.event.specs.Meaning.{Meaning, array, dictionary, close, boolean, integer, real, uid, meaningOf, valueOf, givenOf, bytes, text}
 use Rattle.event.specs.Real.{realOf}
 use Rattle.event.specs.RealLaws.{real-bits}
 use Rattle.event.specs.declared.Event.{Event}
-use Rattle.event.specs.declared.Event.the-variants.{StartArray, StartDictionary, EndCollection, Boolean, Data, Date, Integer, String, Uid}
+use Rattle.event.specs.declared.Event.the-variants.{StartArray, StartDictionary, EndCollection, Boolean, Data, Integer, String, Uid}
 use Rattle.event.specs.declared.Integer.the-variants.{Unsigned}
 use Rattle.event.specs.declared.Length.the-variants.{Given, NotGiven}
 use Rattle.number.specs.Be.{be, bytesOf}
 use Rattle.number.specs.BeLaws.{Bytes, be-fits, bytesOf-be}
 use Rattle.tape.specs.Code.{bytesFor, allowed, OnTape}
-use Rattle.tape.specs.Item.{plain, bytesAt, numbered, negative, dataIn, textIn, ofKind, itemAt, meaningIn, event, readingOf, readAt}
-use Rattle.tape.specs.PartLaws.{bytes-take, bytes-drop, length-part}
+use Rattle.tape.specs.Item.{plain, bytesAt, numbered, negative, dateIn, dataIn, textIn, ofKind, itemAt, meaningIn, event, readingOf, readAt}
+use Rattle.number.specs.PartLaws.{bytes-take, bytes-drop, length-part}
 use Rattle.tape.specs.Seven.{seven}
-use Rattle.tape.specs.Value.{part, numberAt, eightAt}
+use Rattle.number.specs.Part.{part}
+use Rattle.tape.specs.Value.{numberAt, eightAt}
 use Rattle.tape.specs.ValueLaws.{number-begins}
 use Rattle.tape.specs.declared.item.Item.{Item}
 use Rattle.tape.specs.declared.item.Step.{Step}
@@ -123,6 +125,15 @@ module _ (tape : List ℕ) (good : Bytes tape) (at k : ℕ) (first : Stands tape
       (λ e. (record { held = (ltb-true n (2 ^ 63) e, refl); stands = rw (← q) (stands-append tape at (at + 1) next (k ∷ []) (seven n) first (behind n next refl .1)) }, add-zero next))
       tt
 
+  right-date : k ≡ 0x06 → (v : Value) → ((n next : ℕ) → v ≡ Of n next → (n < 2 ^ 64) × Stands tape (at + 1) (bytesOf 8 n) next) → Right tape at (dateIn v)
+  unfolding dateIn plain meaningIn meaningOf bytesFor allowed
+  right-date q NoValue behind = tt
+  right-date q (Of n next) behind =
+      let b = behind n next refl in
+      right-if tape at (isDate n) _ _
+      (λ e. (record { held = (b .0, e); stands = rw (← q) (stands-append tape at (at + 1) next (k ∷ []) (bytesOf 8 n) first (b .1)) }, add-zero next))
+      tt
+
   -- a length and so many bytes
   run-stands : (n start : ℕ) → Stands tape (at + 1) (seven n) start → start + n ≤ length tape → (length (part tape start n) ≡ n) × Stands tape at (k ∷ (seven (length (part tape start n)) ++ part tape start n)) (start + n)
   run-stands n start b h =
@@ -165,7 +176,7 @@ module _ (tape : List ℕ) (good : Bytes tape) (at k : ℕ) (first : Stands tape
       (right-if tape at (eqb k 0x03) _ _ (λ e. right-numbered seven (λ n. Integer (Unsigned n)) (λ n. integer (pos n)) _ number (λ n s h. refl) (λ n h. (h, refl)) (λ n. rw (eqb-true k 0x03 e)))
       (right-if tape at (eqb k 0x04) _ _ (λ e. right-negative (eqb-true k 0x04 e) _ number)
       (right-if tape at (eqb k 0x05) _ _ (λ e. right-numbered (bytesOf 8) realOf real _ eight (λ n s h. real-bits n s h) (λ n h. (h, refl)) (λ n. rw (eqb-true k 0x05 e)))
-      (right-if tape at (eqb k 0x06) _ _ (λ e. right-numbered (bytesOf 8) Date date _ eight (λ n s h. refl) (λ n h. (h, refl)) (λ n. rw (eqb-true k 0x06 e)))
+      (right-if tape at (eqb k 0x06) _ _ (λ e. right-date (eqb-true k 0x06 e) _ eight)
       (right-if tape at (eqb k 0x07) _ _ (λ e. right-numbered seven Uid uid _ number (λ n s h. refl) (λ n h. (h, refl)) (λ n. rw (eqb-true k 0x07 e)))
       (right-if tape at (eqb k 0x08) _ _ (λ e. right-data (eqb-true k 0x08 e) _ number)
       (right-if tape at (eqb k 0x09) _ _ (λ e. right-text (eqb-true k 0x09 e) _ number)

@@ -6,13 +6,15 @@ use Prim.Native.Nat.{ℕ, _+_, _^_}
 use lib.Dec.{ltb, leb, eqb}
 use lib.IntN.{negsuc}
 use lib.ListN.{length, getD}
+use Rattle.event.specs.Date.{isDate}
 use Rattle.event.specs.Meaning.{Meaning, meaningOf}
 use Rattle.event.specs.Real.{realOf}
 use Rattle.event.specs.declared.Event.{Event}
 use Rattle.event.specs.declared.Event.the-variants.{StartArray, StartDictionary, EndCollection, Boolean, Data, Date, Integer, String, Uid}
 use Rattle.event.specs.declared.Integer.the-variants.{Signed, Unsigned}
 use Rattle.event.specs.declared.Length.the-variants.{Given, NotGiven}
-use Rattle.tape.specs.Value.{part, numberAt, eightAt}
+use Rattle.number.specs.Part.{part}
+use Rattle.tape.specs.Value.{numberAt, eightAt}
 use Rattle.tape.specs.declared.item.Item.{Item}
 use Rattle.tape.specs.declared.item.Step.{Step}
 use Rattle.tape.specs.declared.item.Step.the-variants.{Item as ItemOf, Bad}
@@ -24,7 +26,7 @@ use Rattle.unicode.specs.Unicode.{isUtf8}
 unfoldable pub plain : Event → ℕ → Step
 plain e next = ItemOf (record { event = e; start = next; length = 0; next = next })
 
--- an event of a number: an integer from 0 on, a real, a date, a UID, the start of a container with its length (T2)
+-- an event of a number: an integer from 0 on, a real, a UID, the start of a container with its length (T2)
 unfoldable pub numbered : (ℕ → Event) → Value → Step
 numbered f (Of n next) = plain (f n) next
 numbered f NoValue = Bad
@@ -33,6 +35,11 @@ numbered f NoValue = Bad
 unfoldable pub negative : Value → Step
 negative (Of k next) = cond (ltb k (2 ^ 63)) (plain (Integer (Signed (negsuc k))) next) Bad
 negative NoValue = Bad
+
+-- a date, of bits that may be a date's (T2, T3)
+unfoldable pub dateIn : Value → Step
+dateIn (Of bits next) = cond (isDate bits) (plain (Date bits) next) Bad
+dateIn NoValue = Bad
 
 -- an event whose bytes of data or text stand at a place
 unfoldable pub bytesAt : Event → ℕ → ℕ → Step
@@ -59,7 +66,7 @@ ofKind tape kind at =
     (cond (eqb kind 0x03) (numbered (λ n. Integer (Unsigned n)) (numberAt tape at))
     (cond (eqb kind 0x04) (negative (numberAt tape at))
     (cond (eqb kind 0x05) (numbered realOf (eightAt tape at))
-    (cond (eqb kind 0x06) (numbered Date (eightAt tape at))
+    (cond (eqb kind 0x06) (dateIn (eightAt tape at))
     (cond (eqb kind 0x07) (numbered Uid (numberAt tape at))
     (cond (eqb kind 0x08) (dataIn tape (numberAt tape at))
     (cond (eqb kind 0x09) (textIn tape (numberAt tape at))

@@ -6,7 +6,7 @@ use lib.Dec.{eqb}
 use lib.IntN.{ℤ, pos, negsuc}
 use Rattle.event.specs.Real.{realOf}
 use Rattle.event.specs.declared.Event.{Event}
-use Rattle.event.specs.declared.Event.the-variants.{StartArray, StartDictionary, Date, Integer, Uid}
+use Rattle.event.specs.declared.Event.the-variants.{StartArray, StartDictionary, Integer, Uid}
 use Rattle.event.specs.declared.Integer.the-variants.{Unsigned}
 use Rattle.event.specs.declared.Length.{Length}
 use Rattle.event.specs.declared.Length.the-variants.{Given, NotGiven}
@@ -27,6 +27,5 @@ unfoldable pub eventOf : ℕ → ℕ → Event
 eventOf kind n =
     cond (eqb kind 0x03) (Integer (Unsigned n))
     (cond (eqb kind 0x05) (realOf n)
-    (cond (eqb kind 0x06) (Date n)
     (cond (eqb kind 0x07) (Uid n)
-    (cond (eqb kind 0x0B) (StartArray (Given n)) (StartDictionary (Given n))))))
+    (cond (eqb kind 0x0B) (StartArray (Given n)) (StartDictionary (Given n)))))

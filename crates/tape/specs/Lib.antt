@@ -12,7 +12,6 @@ pub mod Item
 pub mod ItemLaws
 pub mod Kinds
 pub mod KindsLaws
-pub mod PartLaws
 pub mod Said
 pub mod SaidLaws
 pub mod SameLaws

@@ -11,7 +11,7 @@ use Rattle.tape.specs.Code.{bytesFor, OnTape}
 use Rattle.tape.specs.CodeLaws.{reads-back, bytes-some}
 use Rattle.tape.specs.FormLaws.{reads-written}
 use Rattle.tape.specs.Item.{event, readAt}
-use Rattle.tape.specs.Value.{part}
+use Rattle.number.specs.Part.{part}
 
 -- two events whose bytes begin alike are the same, and so is what follows them
 pub same-front : (m n : Meaning) (q r : List ℕ) → OnTape m → OnTape n → bytesFor m ++ q ≡ bytesFor n ++ r → (m ≡ n) × (q ≡ r)

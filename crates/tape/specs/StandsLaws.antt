@@ -8,10 +8,11 @@ use lib.ListN.{length, getD, drop, length-append, length-drop}
 use lib.Seq.{drop-at, drop-cons, drop-drop, take-at}
 use Rattle.number.specs.BeLaws.{Bytes}
 use Rattle.tape.specs.FormLaws.{Stands}
-use Rattle.tape.specs.PartLaws.{bytes-drop}
+use Rattle.number.specs.PartLaws.{bytes-drop}
 use Rattle.tape.specs.Seven.{seven}
 use Rattle.tape.specs.SevenLaws.{seven-long}
-use Rattle.tape.specs.Value.{part, numberAt}
+use Rattle.number.specs.Part.{part}
+use Rattle.tape.specs.Value.{numberAt}
 use Rattle.tape.specs.ValueLaws.{number-seven, number-begins}
 use Rattle.tape.specs.declared.value.Value.the-variants.{Of}
 

@@ -3,14 +3,11 @@ use mathlib.Core.Bool.{cond}
 use mathlib.Core.List.{List, [], _∷_}
 use Prim.Native.Nat.{ℕ, _+_, _-_, _*_, _^_}
 use lib.Dec.{ltb, leb, eqb}
-use lib.ListN.{length, take, drop}
+use lib.ListN.{length, drop}
 use Rattle.number.specs.Be.{be}
+use Rattle.number.specs.Part.{part}
 use Rattle.tape.specs.declared.value.Value.{Value}
 use Rattle.tape.specs.declared.value.Value.the-variants.{Of, NoValue}
-
--- the n bytes of a tape from a place on
-abbrev pub part : List ℕ → ℕ → ℕ → List ℕ
-part tape at n = take n (drop at tape)
 
 -- a low group in front of the number n of the groups after it. Groups of 0 would be left out in the shortest form; from 2^57 on the whole is
 -- above 2^64 - 1 (T1)

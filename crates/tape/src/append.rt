@@ -7,14 +7,14 @@ use event::Integer;
 use event::Length;
 use event::real::float_bits;
 use number::be::write_be;
+use number::copy::write_bytes;
 use number::signed::magnitude;
 use unicode::utf8::is_utf8;
 ghost use mathlib.Core.Bool.{not};
 ghost use mathlib.Core.List.{[], _∷_, _++_};
 ghost use mathlib.Core.Path.{_≡_};
-ghost use Prim.Native.Nat.{_+_, _≤_, _<_};
+ghost use Prim.Native.Nat.{_<_};
 ghost use lib.ListN.{length};
-ghost use lib.Seq.{sets};
 ghost use Rattle.event.specs.Meaning.{boolean, integer, meaningOf, valueOf};
 ghost use Rattle.number.specs.Be.{bytesOf};
 ghost use Rattle.tape.specs.Append.{said, putOf, putTo, appendOf, appendTo, ReadsBack};
@@ -179,15 +179,4 @@ fn put_bytes(tape: &mut [u8], held: usize, kind: u8, bytes: &[u8]) -> Appended
     let start = write_number(tape, held + 1, length);
     write_bytes(tape, start, bytes);
     Appended::Held(start + bytes.len())
-}
-
-fn write_bytes(tape: &mut [u8], at: usize, bytes: &[u8])
-    requires { ⌜ at + length (now bytes) ≤ length (now tape) ⌝ }
-    ensures { λ _. ⌜ now (tape .exit) ≡ sets (now (tape .entry)) at (now (bytes .entry)) ⌝ }
-{
-    let mut i: usize = 0;
-    while i < bytes.len() {
-        tape[at + i] = bytes[i];
-        i += 1;
-    }
 }

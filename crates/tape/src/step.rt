@@ -14,7 +14,7 @@ use number::signed::negative_of;
 use unicode::utf8::is_utf8;
 ghost use mathlib.Core.Path.{_≡_};
 ghost use Prim.Native.Nat.{_+_, _^_, _<_};
-ghost use Rattle.tape.specs.Item.{plain, bytesAt, numbered as numberedBy, negative as negativeIn, dataIn, textIn, itemAt};
+ghost use Rattle.tape.specs.Item.{plain, bytesAt, numbered as numberedBy, negative as negativeIn, dateIn, dataIn, textIn, itemAt};
 ghost use Rattle.tape.specs.Kinds.{eventOf};
 
 // The event whose kind stands at a place. Bytes that aren't one whole event, in the tape's own form, are bad.
@@ -31,7 +31,7 @@ pub fn step(tape: &[u8], at: usize) -> Step
         0x03 => numbered(0x03, number_at(tape, next)),
         0x04 => negative(number_at(tape, next)),
         0x05 => numbered(0x05, eight_at(tape, next)),
-        0x06 => numbered(0x06, eight_at(tape, next)),
+        0x06 => dated(eight_at(tape, next)),
         0x07 => numbered(0x07, number_at(tape, next)),
         0x08 => data_at(tape, number_at(tape, next)),
         0x09 => text_at(tape, number_at(tape, next)),
@@ -71,11 +71,20 @@ fn event_of(kind: u8, n: u64) -> Event
     match kind {
         0x03 => Event::Integer(Integer::Unsigned(n)),
         0x05 => real_of(n),
-        0x06 => Event::Date(n),
         0x07 => Event::Uid(n),
         0x0b => Event::StartArray(Length::Given(n)),
         _ => Event::StartDictionary(Length::Given(n)),
     }
+}
+
+// A date: bits that may be a date's.
+fn dated(number: Value) -> Step
+    ensures { λ r. ⌜ r ≡ dateIn number ⌝ }
+{
+    let Value::Of(bits, next) = number else {
+        return Step::Bad;
+    };
+    no_bytes(Event::Date(bits), next)
 }
 
 // A negative integer n stands as -1 - n.

@@ -15,8 +15,10 @@ use Rattle.unicode.specs.declared.changed.Changed.{Changed}
 use Rattle.unicode.specs.declared.changed.Changed.the-variants.{Written, NotText, NoRoom}
 use Rattle.event.specs.Meaning.{Meaning, meaningOf}
 use Rattle.event.specs.declared.Event.{Event}
-use Rattle.object.specs.Content.{part}
+use Rattle.number.specs.Part.{part}
 use Rattle.object.specs.declared.read.Part.{Part}
+use Rattle.event.specs.Bare.{Bare}
+use Rattle.layout.specs.LookLaws.{bare-plain}
 use Rattle.layout.specs.Bytes.{Asked, inFile, inUtf16, noBytes, denied, eventAsked, hasBytes}
 use Rattle.layout.specs.Said.{askedSaid, numberOf, valuesOf}
 use Rattle.layout.specs.declared.refusal.Refusal.{Refusal}
@@ -98,12 +100,12 @@ module _ {file : List ℕ} {e : Event} {bytes : AskedRead} {offset : ℕ} (w : N
 
   -- without bytes
   module _ (h : bytes ≡ NoBytes) where
-    pub is-plain : hasBytes e ≡ false
+    pub is-bare : Bare e
     unfolding askedSaid
-    is-plain = given {a = noBytes} (rw h)
+    is-bare = given {a = noBytes} (rw h)
 
     pub plain-noted : (scratch tape : List ℕ) (held : ℕ) (y : Noted) (t : List ℕ) → y ≡ fromTape (appendOf tape held (meaningOf e [])) → t ≡ appendTo tape held (meaningOf e []) → noting y t scratch ≡ noteOf file scratch tape held (recordOf e offset)
-    plain-noted scratch tape held y t = noted-plain file scratch tape t held e offset y is-plain
+    plain-noted scratch tape held y t = noted-plain file scratch tape t held e offset y (bare-plain e is-bare)
 
   -- bytes of the file
   module _ {p : Part} (h : bytes ≡ InFile p) where

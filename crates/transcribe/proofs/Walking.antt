@@ -18,6 +18,7 @@ use Rattle.layout.specs.Layout.{dueOf, lookOf, standsAt, sourceOf}
 use Rattle.layout.specs.LookLaws.{look-right, looked-stands}
 use Rattle.layout.specs.Looked.{Shape, Looked, withPlace, faulty, scalar, container, startOf}
 use Rattle.layout.specs.Bytes.{hasBytes, lookedBytes}
+use Rattle.layout.specs.LookLaws.{bare-plain}
 use Rattle.layout.specs.Frame.{newFrame, noFrame, nextIn}
 use Rattle.layout.specs.declared.layout.Due.{Due}
 use Rattle.layout.specs.declared.layout.Due.the-variants.{Wrong, Close, Member}
@@ -38,7 +39,7 @@ use Rattle.transcribe.specs.Note.{Noted, kept, noting, fromTape, noteOf}
 use Rattle.transcribe.specs.Run.{End, refused, Run, run, runOf, onward, endOf, finishedOf}
 use Rattle.transcribe.specs.RunLaws.{run-onward}
 use Rattle.transcribe.specs.Said.{failSaid}
-use Rattle.transcribe.specs.HandedLaws.{scalar-given, start-plain}
+use Rattle.transcribe.specs.HandedLaws.{scalar-given, start-bare}
 use Rattle.transcribe.specs.Walk.{Notable, dueNow, within}
 use Rattle.transcribe.specs.declared.note.Failure.{Failure}
 use Rattle.transcribe.proofs.Calls.{plain-noted, call-refused, call-kept, call-failed, run-ended}
@@ -251,7 +252,7 @@ module _ (x : Turn) where
           call-start = rw (call-enter, b, lt-leb _ _ h, starts)
 
           noted-start : Notes e offset y t (x .scratch)
-          noted-start = plain-noted (x .file) (x .scratch) (x .tape) t (x .held) e offset y (rw starts (start-plain shape k)) notes puts
+          noted-start = plain-noted (x .file) (x .scratch) (x .tape) t (x .held) e offset y (rw starts (bare-plain _ (start-bare shape k))) notes puts
 
           pub enter-fails : (f : Failure) → y ≡ failSaid f → Ends (endOf (failSaid f)) (x .held) t (x .scratch)
           enter-fails = fails (entered reads object k offset) e offset call-start y t (x .scratch) noted-start

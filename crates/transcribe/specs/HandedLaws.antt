@@ -1,13 +1,14 @@
 -- What a reader answers, in any state and on any file: the file gives every record that it hands out, and its text is UTF-8 or UTF-16; a
--- refusal has a number below 16, or 17.
+-- refusal has a step's number, or 17.
 use mathlib.Core.Bool.{Bool, true, false, cond, not, _&&_, true≢false}
 use mathlib.Core.List.{List, [], _∷_}
 use mathlib.Core.Logic.{_⊎_, inl, inr}
-use mathlib.Core.Path.{_≡_, refl}
-use Prim.Native.Nat.{ℕ, _<_}
+use mathlib.Core.Path.{_≡_, refl, sym, _∙_}
+use Prim.Native.Nat.{ℕ}
 use native.Mathlib.Omega.{arith}
-use lib.Dec.{ltb, leb, eqb, lit<}
+use lib.Dec.{ltb, leb, eqb}
 use lib.ListN.{length, drop}
+use Rattle.number.specs.Among.{among, among-not}
 use Rattle.number.specs.BeLaws.{Bytes}
 use Rattle.number.specs.Width.{widthOf}
 use Rattle.number.specs.declared.width.Size.{Size}
@@ -16,16 +17,18 @@ use Rattle.number.specs.declared.width.Width.{Width}
 use Rattle.unicode.specs.Bounds.{Below}
 use Rattle.unicode.specs.ChangeLaws.{toUtf8-good}
 use Rattle.unicode.specs.Unicode.{isUtf16, toUtf8}
+use Rattle.event.specs.Bare.{Bare}
 use Rattle.event.specs.Meaning.{meaningOf}
 use Rattle.event.specs.declared.Event.{Event}
 use Rattle.event.specs.declared.Event.the-variants.{StartArray, StartDictionary, EndCollection, Boolean, Data, Date, Integer, Real, Nan, String, Uid}
-use Rattle.object.specs.Content.{part}
+use Rattle.number.specs.Part.{part}
 use Rattle.layout.specs.Layout.{dueOf, lookOf, sourceOf}
-use Rattle.layout.specs.FoundLaws.{faults-below, start-given}
+use Rattle.layout.specs.FoundLaws.{start-given}
 use Rattle.layout.specs.LookLaws.{Bytes-right, Looked-right, look-right, close-given}
 use Rattle.layout.specs.Looked.{Shape, array, dictionary, Looked, barred, missing, faulty, scalar, container, startOf}
 use Rattle.layout.specs.Bytes.{Asked, inFile, inUtf16, noBytes, denied, eventAsked, hasBytes}
-use Rattle.layout.specs.TestLaws.{by-test}
+use Rattle.number.specs.Either.{either}
+use Rattle.layout.specs.Refusals.{fileRefusals, file-refusal, trailer-refusal}
 use Rattle.layout.specs.TrailerLaws.{Tells, tells}
 use Rattle.layout.specs.Trailer.{Trailer, keeps, ends, lays, trailerOf}
 use Rattle.layout.specs.declared.layout.Due.{Due}
@@ -34,28 +37,46 @@ use Rattle.layout.specs.declared.layout.Layout.{Layout}
 use Rattle.reader.specs.Machine.{Said, Step, event, ended, refused, step, enter, arrive, follow, stepOf}
 use Rattle.reader.specs.Meanings.{bytesAsked}
 use Rattle.reader.specs.Next.{tooLong, begin, laidOut, withRefs, goOn, nextOf}
+use Rattle.reader.specs.Refusals.{stepRefusals, step-refusal}
 use Rattle.reader.specs.State.{maxOpen, maxLength, openOf, innermost, memberOf}
 use Rattle.reader.specs.declared.answer.Record.{Record}
 use Rattle.reader.specs.declared.state.Reader.{Reader}
 use Rattle.tape.specs.Code.{allowed}
-use Rattle.tape.specs.PartLaws.{bytes-take, bytes-drop}
+use Rattle.number.specs.PartLaws.{bytes-take, bytes-drop}
 
 -- an event that the file gives, by where its bytes stand: in the file, and then the tape takes them; as UTF-16, which text alone does; nowhere,
 -- if it has none
 abbrev pub Given : List ℕ → Event → Asked → Type 0
 Given file e (inFile start n) = (hasBytes e ≡ true) × (allowed (meaningOf e (part file start n)) ≡ true)
 Given file e (inUtf16 start n) = (e ≡ String) × (isUtf16 (part file start n) ≡ true)
-Given file e noBytes = hasBytes e ≡ false
+Given file e noBytes = Bare e
 Given file e (denied number values) = ⊥
 
 -- the numbers that a reader refuses with
 abbrev pub Own : ℕ → Type 0
-Own number = (number < 16) ⊎ (number ≡ 17)
+Own number = (among stepRefusals number ≡ true) ⊎ (number ≡ 17)
 
-pub start-plain : (shape : Shape) (n : ℕ) → hasBytes (startOf shape n) ≡ false
-unfolding startOf hasBytes
-start-plain array n = refl
-start-plain dictionary n = refl
+-- and no others
+pub own-not : (number other : ℕ) → Own number → among stepRefusals other ≡ false → (other ≡ 17 → ⊥) → number ≡ other → ⊥
+own-not number other (inl h) k n e = among-not stepRefusals number other h k e
+own-not number other (inr h) k n e = n (sym e ∙ h)
+
+listed-14 : among stepRefusals 14 ≡ true
+unfolding stepRefusals among
+listed-14 = refl
+
+listed-15 : among stepRefusals 15 ≡ true
+unfolding stepRefusals among
+listed-15 = refl
+
+listed-1 : among stepRefusals 1 ≡ true
+unfolding stepRefusals fileRefusals among
+listed-1 = refl
+
+pub start-bare : (shape : Shape) (n : ℕ) → Bare (startOf shape n)
+unfolding startOf
+start-bare array n = tt
+start-bare dictionary n = tt
 
 module _ (file : List ℕ) where
   -- bytes that stand rightly are given
@@ -83,20 +104,20 @@ module _ (file : List ℕ) where
   enter-right : (r : Reader) (object : ℕ) (shape : Shape) (n offset : ℕ) → eventAsked file (startOf shape n) offset ≡ noBytes → Handed (enter r object shape n offset .answer)
   unfolding enter
   enter-right r object shape n offset g =
-      by-test Answers (memberOf (openOf r) object) _ _ (λ h. inl (lit< tt)) (λ h. by-test Answers (leb maxOpen (r .depth)) _ _ (λ k. inl (lit< tt)) (λ k. rw g (start-plain shape n)))
+      either Answers (memberOf (openOf r) object) _ _ (λ h. inl listed-14) (λ h. either Answers (leb maxOpen (r .depth)) _ _ (λ k. inl listed-15) (λ k. rw g (start-bare shape n)))
 
   arrive-right : (l : Layout) (r : Reader) (object : ℕ) (x : Looked) → Looked-right file l object x → Handed (arrive r object x .answer)
   unfolding arrive
-  arrive-right l r object (barred number values) h = inl (omega (arith, faults-below number h))
+  arrive-right l r object (barred number values) h = inl (step-refusal number (file-refusal number h))
   arrive-right l r object missing h = inr refl
-  arrive-right l r object (faulty number values offset) h = inl (omega (arith, faults-below number h))
+  arrive-right l r object (faulty number values offset) h = inl (step-refusal number (file-refusal number h))
   arrive-right l r object (scalar e offset) h = stand-given e (eventAsked file e offset) h
   arrive-right l r object (container shape n offset) h = enter-right r object shape n offset (start-given file _ shape n offset (h .lies))
 
   follow-right : (l : Layout) (r : Reader) (d : Due) → dueOf file l (innermost r) ≡ d → Handed (follow (sourceOf file l) r d .answer)
-  unfolding follow sourceOf hasBytes
+  unfolding follow sourceOf
   follow-right l r Wrong h = inr refl
-  follow-right l r (Close offset) h = rw (close-given file l (innermost r) offset h) refl
+  follow-right l r (Close offset) h = rw (close-given file l (innermost r) offset h) tt
   follow-right l r (Member object) h = arrive-right l r object (lookOf file l object) (look-right file l object)
 
   refs-right : (r : Reader) (offsets : Width) (refs : Size) → Handed (withRefs file r offsets refs .answer)
@@ -111,19 +132,19 @@ module _ (file : List ℕ) where
 
   begin-right : (r : Reader) (t : Trailer) → Tells file t → Handed (begin file r t .answer)
   unfolding begin
-  begin-right r (keeps number values place) h = inl (omega arith)
-  begin-right r (ends number values place) h = inl (omega arith)
+  begin-right r (keeps number values place) h = inl (step-refusal number (trailer-refusal number (omega arith) (omega arith)))
+  begin-right r (ends number values place) h = inl (step-refusal number (trailer-refusal number (omega arith) (omega arith)))
   begin-right r (lays l root) h = arrive-right l (laidOut file l) root (lookOf file l root) (look-right file l root)
 
   -- an answer to any call is such a one
   pub next-handed : (r : Reader) → Handed (nextOf file r .answer)
   unfolding nextOf
   next-handed r =
-      by-test Answers (not (r .fresh) && eqb (r .depth) 0) _ _ (λ h. tt)
-      (λ h. by-test Answers (ltb maxLength (length file)) _ _ (λ h. inl (lit< tt))
-      (λ h. by-test Answers (r .fresh) _ _ (λ h. begin-right r (trailerOf file) (tells file))
-      (λ h. by-test Answers (not (eqb (r .length) (length file))) _ _ (λ h. inr refl)
-      (λ h. by-test Answers (ltb maxOpen (r .depth)) _ _ (λ h. inr refl)
+      either Answers (not (r .fresh) && eqb (r .depth) 0) _ _ (λ h. tt)
+      (λ h. either Answers (ltb maxLength (length file)) _ _ (λ h. inl listed-1)
+      (λ h. either Answers (r .fresh) _ _ (λ h. begin-right r (trailerOf file) (tells file))
+      (λ h. either Answers (not (eqb (r .length) (length file))) _ _ (λ h. inr refl)
+      (λ h. either Answers (ltb maxOpen (r .depth)) _ _ (λ h. inr refl)
       (λ h. on-right r (widthOf (r .offsets)) (widthOf (r .refs)))))))
 
   -- and a file that an event was read from isn't too long
@@ -136,20 +157,35 @@ module _ (file : List ℕ) where
       first false true x f g = let z : _≡_ {A = ℕ} 0 1 = cc in absurd (omega arith)
       first false false x f g = f
 
--- an event without bytes means the same whatever stands beside it, and the tape takes it
-pub plain-means : (e : Event) (s : List ℕ) → hasBytes e ≡ false → (meaningOf e s ≡ meaningOf e []) × (allowed (meaningOf e s) ≡ true)
-unfolding meaningOf hasBytes allowed
-plain-means (StartArray n) s h = (refl, refl)
-plain-means (StartDictionary n) s h = (refl, refl)
-plain-means EndCollection s h = (refl, refl)
-plain-means (Boolean b) s h = (refl, refl)
-plain-means Data s h = absurd (true≢false h)
-plain-means (Date b) s h = (refl, refl)
-plain-means (Integer i) s h = (refl, refl)
-plain-means (Real x) s h = (refl, refl)
-plain-means (Nan b) s h = (refl, refl)
-plain-means String s h = absurd (true≢false h)
-plain-means (Uid n) s h = (refl, refl)
+-- an event without bytes means the same whatever stands beside it
+pub plain-same : (e : Event) (s : List ℕ) → hasBytes e ≡ false → meaningOf e s ≡ meaningOf e []
+unfolding meaningOf hasBytes
+plain-same (StartArray n) s h = refl
+plain-same (StartDictionary n) s h = refl
+plain-same EndCollection s h = refl
+plain-same (Boolean b) s h = refl
+plain-same Data s h = absurd (true≢false h)
+plain-same (Date b) s h = refl
+plain-same (Integer i) s h = refl
+plain-same (Real x) s h = refl
+plain-same (Nan b) s h = refl
+plain-same String s h = absurd (true≢false h)
+plain-same (Uid n) s h = refl
+
+-- one that is known without bytes, the tape takes
+pub bare-allowed : (e : Event) → Bare e → allowed (meaningOf e []) ≡ true
+unfolding meaningOf allowed
+bare-allowed (StartArray n) h = refl
+bare-allowed (StartDictionary n) h = refl
+bare-allowed EndCollection h = refl
+bare-allowed (Boolean b) h = refl
+bare-allowed Data h = absurd h
+bare-allowed (Date b) h = h
+bare-allowed (Integer i) h = refl
+bare-allowed (Real x) h = refl
+bare-allowed (Nan b) h = refl
+bare-allowed String h = absurd h
+bare-allowed (Uid n) h = refl
 
 bytes-below : (s : List ℕ) → Bytes s → Below 256 s
 bytes-below [] b = tt
@@ -163,5 +199,5 @@ given-allowed file b e (inUtf16 start n) g = rw (g .0) (is-text (part file start
   where
     is-text : (s : List ℕ) → Below 256 s → isUtf16 s ≡ true → allowed (meaningOf String (toUtf8 s)) ≡ true
     is-text s b h = toUtf8-good s b h
-given-allowed file b e noBytes g = plain-means e [] g .1
+given-allowed file b e noBytes g = bare-allowed e g
 given-allowed file b e (denied number values) g = absurd g

@@ -1,7 +1,7 @@
 -- A transcript holds what the reader's answers mean, in order, and ends as the next answer says.
 use mathlib.Core.Bool.{Bool, true, false, true≢false}
 use mathlib.Core.List.{List, [], _∷_, _++_, map}
-use mathlib.Core.Logic.{_⊎_, inl, inr, ⊎-elim}
+use mathlib.Core.Logic.{_⊎_, inl, inr}
 use mathlib.Core.Path.{_≡_, refl, ap, sym, _∙_}
 use Prim.Native.Nat.{ℕ, zero, suc, _+_, _-_, _≤_, _<_}
 use native.Mathlib.Nat.{zero-add, add-zero, sub-zero}
@@ -15,13 +15,15 @@ use Rattle.unicode.specs.Unicode.{toUtf8}
 use Rattle.event.specs.Meaning.{Meaning, text, meaningOf}
 use Rattle.event.specs.declared.Event.{Event}
 use Rattle.event.specs.declared.Event.the-variants.{String}
-use Rattle.object.specs.Content.{part}
+use Rattle.number.specs.Part.{part}
 use Rattle.layout.specs.Bytes.{hasBytes, Asked, inFile, inUtf16, noBytes, denied, eventAsked}
+use Rattle.layout.specs.LookLaws.{bare-plain}
 use Rattle.reader.specs.Machine.{Said, event, recordOf, eventAt}
 use Rattle.reader.specs.Machine as reader
 use Rattle.reader.specs.Meanings.{Told, means, bytesAsked, meaningAt, told, answers}
 use Rattle.reader.specs.Meanings as meanings
 use Rattle.reader.specs.Next.{nextOf}
+use Rattle.reader.specs.Refusals.{not-step-16, not-step-20, not-step-27}
 use Rattle.reader.specs.Request.{askedOf, lengthSaid, scratchAfter, partSaid}
 use Rattle.reader.specs.State.{maxLength, freshReader}
 use Rattle.reader.specs.declared.state.Reader.{Reader}
@@ -29,7 +31,7 @@ use Rattle.tape.specs.Append.{putOf, putTo, fits, appendOf, appendTo}
 use Rattle.unicode.proofs.Writing.{sets-append}
 use Rattle.tape.specs.Code.{bytesFor, allowed}
 use Rattle.tape.specs.Events.{tapeOf}
-use Rattle.transcribe.specs.HandedLaws.{Given, Own, Handed, next-handed, next-short, plain-means, given-allowed}
+use Rattle.transcribe.specs.HandedLaws.{Given, Own, Handed, next-handed, next-short, plain-same, own-not, given-allowed}
 use Rattle.transcribe.specs.Note.{Note, noting, fromTape, putNote, textNote, noteOf}
 use Rattle.transcribe.specs.Note as note
 use Rattle.transcribe.specs.Run.{End, ended, stopped, refused, Run, run, byNoted, byNote, bySaid, runOf, transcriptOf}
@@ -103,7 +105,7 @@ module _ (file scratch tape : List ℕ) (held : ℕ) (e : Event) (offset : ℕ) 
 
   note-plain : hasBytes e ≡ false → noteOf file scratch tape held (recordOf e offset) ≡ putNote scratch tape held (meaningAt file e offset)
   unfolding noteOf meaningAt
-  note-plain h = rw (h, plain-means e (bytesAsked file (eventAsked file e offset)) h .0)
+  note-plain h = rw (h, plain-same e (bytesAsked file (eventAsked file e offset)) h)
 
   module _ (h : hasBytes e ≡ true) (start n : ℕ) where
     pub note-file : eventAsked file e offset ≡ inFile start n → noteOf file scratch tape held (recordOf e offset) ≡ putNote scratch tape held (meaningAt file e offset)
@@ -134,7 +136,7 @@ module _ (file scratch tape : List ℕ) (held : ℕ) (e : Event) (offset : ℕ) 
               lacks (record { says = (refl, refl, refl); start = start; count = n; stands = rw (← k) d; is = rw (d, k); long = leb-false _ _ f }) (note-long f)
 
   note-asked : (a : Asked) → eventAsked file e offset ≡ a → Given file e a → hasBytes e ≡ true → Notes file scratch tape held (meaningAt file e offset) offset (noteOf file scratch tape held (recordOf e offset))
-  note-asked noBytes d g h = absurd (true≢false (sym h ∙ g))
+  note-asked noBytes d g h = absurd (true≢false (sym h ∙ bare-plain e g))
   note-asked (denied number values) d g h = absurd g
   note-asked (inFile start n) d g h = puts scratch refl (note-file h start n d)
   note-asked (inUtf16 start n) d g h = note-utf16 h start n d (g .0)
@@ -263,7 +265,7 @@ module _ {n : ℕ} {file scratch tape : List ℕ} {held : ℕ} {r : Reader} {x :
     refuses : Refuses file scratch tape (x .held) (w .next) number values place
     refuses = rw e at (w .ends)
 
-    -- any number but 16 and 27 is the reader's own, and then it is below 16, or 17: never 20
+    -- any number but 16 and 27 is the reader's own, and then it is a step's, or 17: never 20
     pub at-refusal : (number ≡ 16 → ⊥) → (number ≡ 27 → ⊥) → (w .next ≡ meanings.refused number values place) × Own number
     at-refusal f g = go (w .next) refuses
       where
@@ -274,7 +276,7 @@ module _ {n : ℕ} {file scratch tape : List ℕ} {held : ℕ} {r : Reader} {x :
         go (meanings.refused a b c) h = (rw (h .0, h .1, h .2), h .3)
 
     pub never-bad-text : number ≡ 20 → ⊥
-    never-bad-text f = ⊎-elim (λ h. omega arith) (λ h. omega arith) (at-refusal (λ h. omega arith) (λ h. omega arith) .1)
+    never-bad-text f = own-not number 20 (at-refusal (λ h. omega arith) (λ h. omega arith) .1) not-step-20 (λ e. omega arith) f
 
     -- 16 is the scratch's alone
     pub at-scratch : number ≡ 16 → (m : Meaning) × (offset : ℕ) × (w .next ≡ means m offset) × NoScratch file scratch m offset number values place
@@ -284,7 +286,7 @@ module _ {n : ℕ} {file scratch tape : List ℕ} {held : ℕ} {r : Reader} {x :
         go (means m offset) (inl h) = (m, offset, refl, h)
         go (means m offset) (inr h) = let z : number ≡ 27 = h .says .0 in absurd (omega arith)
         go meanings.ended h = absurd h
-        go (meanings.refused a b c) h = absurd (⊎-elim (λ z. omega arith) (λ z. omega arith) (h .3))
+        go (meanings.refused a b c) h = absurd (own-not number 16 (h .3) not-step-16 (λ e. omega arith) f)
 
     -- 27 the tape's
     pub at-tape : number ≡ 27 → (m : Meaning) × (offset : ℕ) × (w .next ≡ means m offset) × NoTape tape (x .held) m number values place
@@ -294,4 +296,4 @@ module _ {n : ℕ} {file scratch tape : List ℕ} {held : ℕ} {r : Reader} {x :
         go (means m offset) (inl h) = let z : number ≡ 16 = h .says .0 in absurd (omega arith)
         go (means m offset) (inr h) = (m, offset, refl, h)
         go meanings.ended h = absurd h
-        go (meanings.refused a b c) h = absurd (⊎-elim (λ z. omega arith) (λ z. omega arith) (h .3))
+        go (meanings.refused a b c) h = absurd (own-not number 27 (h .3) not-step-27 (λ e. omega arith) f)

@@ -6,11 +6,10 @@ use tape::append::Appended;
 use tape::append::append_unchecked;
 use unicode::changed::Changed;
 use unicode::utf16::utf16_to_utf8;
-ghost use mathlib.Core.Bool.{false};
 ghost use mathlib.Core.List.{[]};
 ghost use mathlib.Core.Path.{_≡_};
 ghost use Rattle.event.specs.Meaning.{meaningOf};
-ghost use Rattle.layout.specs.Bytes.{hasBytes};
+ghost use Rattle.event.specs.Bare.{Bare};
 ghost use Rattle.reader.specs.Machine.{recordOf};
 ghost use Rattle.tape.specs.Append.{said, appendOf, appendTo};
 ghost use Rattle.transcribe.specs.Note.{fromTape, noting, noteOf};
@@ -70,7 +69,7 @@ pub(crate) fn note(
 
 // An event without bytes.
 pub(crate) fn note_plain(tape: &mut [u8], held: usize, event: Event) -> NoteAnswer
-    requires { ⌜ hasBytes event ≡ false ⌝ }
+    requires { ⌜ Bare event ⌝ }
     ensures { λ r. ⌜ noteSaid r ≡ fromTape (appendOf (now (tape .entry)) held (meaningOf event [])) ⌝ }
     ensures { λ _. ⌜ now (tape .exit) ≡ appendTo (now (tape .entry)) held (meaningOf event []) ⌝ }
 {

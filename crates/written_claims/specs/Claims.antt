@@ -10,6 +10,7 @@ use Rattle.number.specs.Width.{bytesIn}
 use Rattle.event.specs.Meaning.{Meaning}
 use Rattle.event.specs.declared.Event.{Event}
 use Rattle.object.specs.Content.{trailerAt}
+use Rattle.layout.specs.FoundLaws.{refsOf}
 use Rattle.layout.specs.Layout.{entryAt, lookOf, sourceOf}
 use Rattle.layout.specs.Looked.{Shape, scalar, container}
 use Rattle.layout.specs.Trailer.{lays, trailerOf}
@@ -30,7 +31,7 @@ use Rattle.written_claims.specs.FileBack.{event-means}
 use Rattle.written_claims.specs.Back.{eventBy}
 use Rattle.written_claims.specs.Laid.{refs-size, offsets-size, trailer-at, object-there, object-whole, trailer, entry}
 use Rattle.written_claims.specs.Objects.{look-value, look-holder, references-many, Numbered, value, holder, numbered, object-below}
-use Rattle.written_claims.specs.References.{manyOf, references, allReferences, Names, Reached, mentions}
+use Rattle.written_claims.specs.References.{namedBy, allReferences, Names, Reached, mentions}
 use Rattle.written_claims.specs.Shared as shared
 
 -- an object is looked up as a scalar or a container, at an offset below the table
@@ -77,11 +78,11 @@ module _ (ms : List Meaning) (a : Accepted ms) where
   in-range m i h = shared.range es (sound ms a) m i h
 
   -- and a container has as many as its length says
-  pub references-complete : (i : ℕ) → i < layoutFor ms .count → (s : Shape) (k at : ℕ) → lookOf (fileFor ms) (layoutFor ms) i ≡ container s k at → length (references (fileFor ms) (layoutFor ms) i) ≡ manyOf s k
+  pub references-complete : (i : ℕ) → i < layoutFor ms .count → (s : Shape) (k at : ℕ) → lookOf (fileFor ms) (layoutFor ms) i ≡ container s k at → length (namedBy (fileFor ms) (layoutFor ms) i) ≡ refsOf s k
   unfolding fileFor
   references-complete i h s k at look = go (each i h)
     where
-      go : Each i → length (references (fileFor ms) (layoutFor ms) i) ≡ manyOf s k
+      go : Each i → length (namedBy (fileFor ms) (layoutFor ms) i) ≡ refsOf s k
       go (value t n q) = clash _ _ s k at (sym (look-value es (sound ms a) t n) ∙ rw q look)
       go (holder p n q b) = rw q at (references-many es (sound ms a) p n b s k at (rw q look))
 

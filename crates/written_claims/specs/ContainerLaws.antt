@@ -10,8 +10,8 @@ use lib.Seq.{getD-append-add}
 use Rattle.number.specs.Width.{bytesIn}
 use Rattle.number.specs.declared.width.Width.{Width}
 use Rattle.unicode.specs.Bounds.{Below}
-use Rattle.object.specs.Container.{containerOf, containerAt}
-use Rattle.object.specs.Content.{trailerAt, roomFor}
+use Rattle.object.specs.Container.{arrayOf, dictionaryOf, containerOf, containerAt}
+use Rattle.object.specs.Content.{trailerAt, roomFor, pairsIn, pairsAt}
 use Rattle.object.specs.Kind.{kindOf}
 use Rattle.object.specs.KindLaws.{kind-array, kind-dictionary}
 use Rattle.object.specs.Object.{byKind, objectAt, arrayIn, dictionaryIn}
@@ -49,13 +49,13 @@ module _ (file : List ℕ) (l : Layout) (at : ℕ) where
 
   pub array-reads : (rs : List ℕ) → length rs < 2 ^ 64 → Below (256 ^ bytesIn (l .refs)) rs
       → Whole file at (objectBytes (bytesIn (l .refs)) (list rs)) → ArrayReads rs
-  unfolding objectBytes byKind arrayIn containerAt containerOf dueIn inArray
+  unfolding objectBytes byKind arrayIn containerAt containerOf arrayOf dueIn inArray
   array-reads rs small good wh =
       let w = bytesIn (l .refs) in
       let n = length rs in
       let d = headed file at 0xA0 n w (numbersBytes w rs) small (omega (arith, length-numbers w rs)) wh in
       let k : kindOf (0xA0 + nibbleOf n) ≡ kind.Array (nibbleOf n) = kind-nibble 0xA0 kind.Array kind-array n in
-      let c : containerAt file at ≡ Array (behind at 0xA0 n) = rw (lt-ltb at (trailerAt file) (d .inside), d .marker, k, d .extent) in
+      let c : containerAt file at ≡ Array (behind at 0xA0 n) = rw (lt-ltb at (trailerAt file) (d .inside), d .marker, k, containerOf, d .head) in
       let start = at + length (headBytes 0xA0 n) in
       record {
         is = d .decides (l .refs) ∙ rw (k, d .content);
@@ -105,7 +105,7 @@ module _ (file : List ℕ) (l : Layout) (at : ℕ) where
 
   pub dictionary-reads : (keys values : List ℕ) → length values ≡ length keys → length keys < 2 ^ 64 → Below (256 ^ bytesIn (l .refs)) (keys ++ values)
       → Whole file at (objectBytes (bytesIn (l .refs)) (pairs keys values)) → DictionaryReads keys values
-  unfolding objectBytes byKind dictionaryIn roomFor containerAt containerOf dueIn inDictionary
+  unfolding objectBytes byKind dictionaryIn pairsAt pairsIn roomFor containerAt containerOf dictionaryOf dueIn inDictionary
   dictionary-reads keys values same small good wh =
       let w = bytesIn (l .refs) in
       let n = length keys in
@@ -114,13 +114,13 @@ module _ (file : List ℕ) (l : Layout) (at : ℕ) where
       let twice : length (numbersBytes w rs) ≡ 2 * (n * w) = length-numbers w rs ∙ rw (length-append, same, add-mul) (omega arith) in
       let d = headed file at 0xD0 n w (numbersBytes w rs) small (omega arith) wh in
       let k : kindOf (0xD0 + nibbleOf n) ≡ kind.Dictionary (nibbleOf n) = kind-nibble 0xD0 kind.Dictionary kind-dictionary n in
-      let c : containerAt file at ≡ Dictionary (behind at 0xD0 n) = rw (lt-ltb at (trailerAt file) (d .inside), d .marker, k, d .extent) in
+      let c : containerAt file at ≡ Dictionary (behind at 0xD0 n) = rw (lt-ltb at (trailerAt file) (d .inside), d .marker, k, containerOf, d .head) in
       let start = at + length (headBytes 0xD0 n) in
       let whole : at + (length (headBytes 0xD0 n) + 2 * (n * w)) ≤ trailerAt file = rw (length-append (headBytes 0xD0 n), twice) at (wh .ends) in
       let at-place : (f : Frame) → f .length ≡ n → f .position < 2 * n → dueIn file l f at (containerAt file at) ≡ Member (getD rs (placeIn n (f .position)) 0) =
       λ f e h. rw (c, dueIn, inDictionary, e, eq-eqb n n refl, ← many) (due-reference file (l .refs) at start rs good (d .body) (placeIn n (f .position)) (f .position) (omega arith) (omega (arith, place-lt n (f .position) h))) in
       record {
-        is = d .decides (l .refs) ∙ rw (k, d .content, le-leb (start + 2 * (n * w)) (length file) (omega arith), le-leb (at + 2 * (n * w)) (trailerAt file) (omega arith));
+        is = d .decides (l .refs) ∙ rw (k, d .content, pairsIn, le-leb (start + 2 * (n * w)) (length file) (omega arith), le-leb (at + 2 * (n * w)) (trailerAt file) (omega arith));
         lies = c;
         body = d .body;
         key = λ f e j h p. at-place f e (omega arith) ∙ rw p (ap Member (key-place keys values j h));

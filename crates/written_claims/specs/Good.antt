@@ -7,6 +7,7 @@ use Rattle.number.specs.Width.{bytesIn}
 use Rattle.event.specs.Meaning.{Meaning}
 use Rattle.event.specs.declared.Event.{Event}
 use Rattle.object.specs.Content.{trailerAt}
+use Rattle.layout.specs.FoundLaws.{refsOf}
 use Rattle.layout.specs.Layout.{lookOf}
 use Rattle.layout.specs.Looked.{Shape, scalar, container}
 use Rattle.reader.specs.Meanings.{meaningAt, ended, answers}
@@ -25,7 +26,7 @@ use Rattle.written_claims.specs.Filled.{filled, handedOf}
 use Rattle.written_claims.specs.ReadBack.{means-back, handed-means}
 use Rattle.written_claims.specs.ReadWhole as back
 use Rattle.written_claims.specs.ReadWhole.{scratchNeeded, Holds}
-use Rattle.written_claims.specs.References.{manyOf, references, allReferences, Names, Reached, mentions}
+use Rattle.written_claims.specs.References.{namedBy, allReferences, Names, Reached, mentions}
 
 -- a file whose root is 0, and what reading it gives: the events of ms, lengths filled in
 pub record Good (file : List ℕ) (ms : List Meaning) : Type 0 where
@@ -33,7 +34,7 @@ pub record Good (file : List ℕ) (ms : List Meaning) : Type 0 where
   pub laid-out : trailerOf file ≡ lays layout 0
   pub looked-up : (i : ℕ) → i < layout .count → LookedUp file layout i
   pub in-range : (m i : ℕ) → Names file layout m i → i < layout .count
-  pub complete : (i : ℕ) → i < layout .count → (s : Shape) (k at : ℕ) → lookOf file layout i ≡ container s k at → length (references file layout i) ≡ manyOf s k
+  pub complete : (i : ℕ) → i < layout .count → (s : Shape) (k at : ℕ) → lookOf file layout i ≡ container s k at → length (namedBy file layout i) ≡ refsOf s k
   pub reached : (i : ℕ) → i < layout .count → Reached file layout 0 i
   pub one-object : (i j : ℕ) → i < layout .count → j < layout .count → (e d : Event) (at bt : ℕ)
       → lookOf file layout i ≡ scalar e at → lookOf file layout j ≡ scalar d bt

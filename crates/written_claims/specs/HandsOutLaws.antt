@@ -11,7 +11,7 @@ use Rattle.event.specs.Meaning.{meaningOf}
 use Rattle.event.specs.declared.Event.{Event}
 use Rattle.event.specs.declared.Event.the-variants.{StartArray, StartDictionary, EndCollection, Boolean, Data, Date, Integer, Real, Nan, String, Uid}
 use Rattle.unicode.specs.Unicode.{isAscii, toUtf8}
-use Rattle.object.specs.Content.{part}
+use Rattle.number.specs.Part.{part}
 use Rattle.layout.specs.Bytes.{Asked, inFile, inUtf16, noBytes, denied, eventAsked, hasBytes}
 use Rattle.reader.specs.Machine.{Said, eventAt}
 use Rattle.reader.specs.Meanings.{bytesAsked, meaningAt, told}

@@ -13,9 +13,10 @@ use Rattle.number.specs.BeLaws.{length-bytesOf}
 use Rattle.number.specs.Size.{sizeOf}
 use Rattle.number.specs.SizeLaws.{Sized, one, two, four, eight, sized, fits-itself}
 use Rattle.number.specs.declared.width.Width.{Width}
-use Rattle.object.specs.Content.{part, trailerAt, lengthWidth, extentAt, roomFor, contentAt}
+use Rattle.number.specs.Part.{part}
+use Rattle.object.specs.Content.{trailerAt, lengthWidth, extentAt, headAt, roomFor, measured, contentAt}
 use Rattle.object.specs.Kind.{kindOf}
-use Rattle.object.specs.Object.{byKind, objectAt}
+use Rattle.object.specs.Object.{Found, fixedAt, byKind, objectAt}
 use Rattle.object.specs.ObjectLaws.{object-inside}
 use Rattle.object.specs.declared.content.Content.the-variants.{Fits}
 use Rattle.object.specs.declared.content.Extent.{Extent}
@@ -34,6 +35,12 @@ marker-width eight = refl
 -- the marker that stands below T decides
 pub marker-decides : (file : List ℕ) (refs : Width) (at marker : ℕ) (s : List ℕ) → Whole file at (marker ∷ s) → objectAt file refs at ≡ byKind file refs at (kindOf marker)
 marker-decides file refs at marker s wh = object-inside file refs at (omega (arith, wh .ends)) ∙ rw (stands-byte file at marker s (wh .stands))
+
+-- a scalar of fixed size that stands whole before T is read from its bytes
+pub fixed-reads : (file : List ℕ) (at w : ℕ) (read : List ℕ → Found) (marker : ℕ) (s : List ℕ) → length s ≡ w → Whole file at (marker ∷ s)
+    → fixedAt file at w read ≡ read (part file (at + 1) w)
+unfolding fixedAt
+fixed-reads file at w read marker s h wh = refl
 
 -- a nibble has four bits
 pub nibble-lt : (n : ℕ) → nibbleOf n < 16
@@ -67,6 +74,10 @@ extent-is file at base n small st = go (ltb n 15) refl
         let v : be (part file (at + 2) w) ≡ n = stands-number file (at + 2) w n (fits-itself n small) d in
         rw (e, g, marker-width (sized n), v, length-bytesOf w n) (ap (λ (x : ℕ). record { start = x; count = n }) (let a : at + 2 + w ≡ at + suc (suc w) = omega arith in a))
 
+head-is : (file : List ℕ) (at base n : ℕ) → n < 2 ^ 64 → Stands file at (headBytes base n) → headAt file at (nibbleOf n) ≡ Fits (behind at base n)
+unfolding headAt
+head-is file at base n small st = ap Fits (extent-is file at base n small st)
+
 -- a head of n in front of bytes, n elements of so many bytes each at least, that end at or before T
 pub record Headed (file : List ℕ) (at base n each : ℕ) (s : List ℕ) : Type 0 where
   -- the marker decides
@@ -75,23 +86,26 @@ pub record Headed (file : List ℕ) (at base n each : ℕ) (s : List ℕ) : Type
   pub decides : (refs : Width) → objectAt file refs at ≡ byKind file refs at (kindOf (base + nibbleOf n))
   -- the length is n, and there is room for the elements
   pub extent : extentAt file at (nibbleOf n) ≡ behind at base n
+  pub head : headAt file at (nibbleOf n) ≡ Fits (behind at base n)
   pub content : contentAt file at (nibbleOf n) each ≡ Fits (behind at base n)
   -- where the bytes stand
   pub body : Stands file (at + length (headBytes base n)) s
 
 pub headed : (file : List ℕ) (at base n each : ℕ) (s : List ℕ) → n < 2 ^ 64 → n * each ≤ length s
     → Whole file at (headBytes base n ++ s) → Headed file at base n each s
-unfolding headBytes contentAt roomFor
+unfolding headBytes measured contentAt roomFor
 headed file at base n each s small long wh =
     let front : Stands file at (headBytes base n) = stands-front file at (headBytes base n) s (wh .stands) in
     let e = extent-is file at base n small front in
     let l : at + (length (headBytes base n) + length s) ≤ trailerAt file = rw length-append at (wh .ends) in
     let i : at < trailerAt file = omega arith in
+    let d : headAt file at (nibbleOf n) ≡ Fits (behind at base n) = head-is file at base n small front in
     record {
       inside = i;
       marker = stands-byte file at (base + nibbleOf n) _ front;
       decides = λ refs. marker-decides file refs at (base + nibbleOf n) _ wh;
       extent = e;
-      content = rw (e, le-leb (at + n * each) (trailerAt file) (omega arith));
+      head = d;
+      content = rw (d, measured, le-leb (at + n * each) (trailerAt file) (omega arith));
       body = stands-back file at (headBytes base n) s (wh .stands);
     }

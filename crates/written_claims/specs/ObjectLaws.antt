@@ -1,5 +1,4 @@
 -- An object that stands in a file is shown by it.
-use mathlib.Core.Bool.{true}
 use mathlib.Core.List.{List}
 use mathlib.Core.Path.{_≡_, refl, _∙_}
 use Prim.Native.Nat.{ℕ, _<_}
@@ -10,13 +9,14 @@ use Rattle.number.specs.declared.width.Width.the-variants.{One}
 use Rattle.number.specs.declared.width.Width.{Width}
 use Rattle.event.specs.Meaning.{Meaning, meaningOf}
 use Rattle.event.specs.declared.Event.the-variants.{Data, String}
+use Rattle.object.specs.KnownLaws.{Plain}
 use Rattle.object.specs.Object.{Found, objectAt}
 use Rattle.object.specs.Object as found
 use Rattle.layout.specs.Layout.{entryAt, lookIn, lookOf, sourceOf}
 use Rattle.layout.specs.Looked.{scalar}
-use Rattle.layout.specs.FoundLaws.{sound, whole-given}
-use Rattle.layout.specs.LookLaws.{Bytes-right, look-right}
-use Rattle.layout.specs.Bytes.{noBytes, dataAsked, textAsked, eventAsked, isWhole, hasBytes}
+use Rattle.layout.specs.FoundLaws.{sound, plain-whole, whole-given}
+use Rattle.layout.specs.LookLaws.{Bytes-right, bare-plain, look-right}
+use Rattle.layout.specs.Bytes.{noBytes, dataAsked, textAsked, eventAsked, hasBytes}
 use Rattle.layout.specs.declared.layout.Entry.the-variants.{Of}
 use Rattle.layout.specs.declared.layout.Layout.{Layout}
 use Rattle.reader.specs.Meanings.{bytesAsked, meaningAt}
@@ -44,11 +44,11 @@ module _ (file : List ℕ) (l : Layout) (n at : ℕ) (numbered : n < l .count) (
       go found.outside is says = absurd says
       go (found.refused number values) is says = absurd says
       go (found.scalar e) is says =
-          let h : (found.scalar e ≡ found.scalar e) × (isWhole e ≡ true) = rw (is One) at (sound file One at) in
-          let given : eventAsked file e at ≡ noBytes = whole-given file e at (h .1) (is One) in
+          let h : (found.scalar e ≡ found.scalar e) × Plain e = rw (is One) at (sound file One at) in
+          let given : eventAsked file e at ≡ noBytes = whole-given file e at (plain-whole e (h .1)) (is One) in
           let look : lookOf file l n ≡ scalar e at = look-there file l n at numbered entry ∙ rw (is (l .refs)) in
           let right : Bytes-right file e (eventAsked file e at) = rw look at (look-right file l n) in
-          record { event = e; look = look; means = says _; asks = rw given (rw given at right) }
+          record { event = e; look = look; means = says _; asks = rw given (bare-plain e (rw given at right)) }
       go (found.bytes start k) is says = record { event = Data; look = look-there file l n at numbered entry ∙ rw (is (l .refs)); means = rw (is One) (says .0); asks = rw (is One) (refl, says .1) }
       go (found.utf8 start k) is says = record { event = String; look = look-there file l n at numbered entry ∙ rw (is (l .refs)); means = rw (is One) (says .0); asks = rw (is One) (refl, says .1) }
       go (found.utf16 start k) is says = record { event = String; look = look-there file l n at numbered entry ∙ rw (is (l .refs)); means = rw (is One) (says .0); asks = rw (is One) (refl, says .1) }

@@ -1,35 +1,40 @@
 -- What the written file's bytes say of each number below the count: a scalar, or a container with its references.
 use mathlib.Core.Bool.{true, false, true≢false}
 use mathlib.Core.List.{List, [], _∷_, map}
+use mathlib.Core.Option.{some}
 use mathlib.Core.Path.{_≡_, refl, sym, ap, _∙_}
 use Prim.Native.Nat.{ℕ, suc, _≤_, _<_}
 use native.Mathlib.Omega.{arith}
 use borrow.Author.Tests.{le-ltb}
-use lib.ListN.{length, getD, drop, length-map}
+use lib.ListN.{length, getD, getElem?, drop, length-map}
+use lib.Seq.{drop-cons, drop-length}
 use Rattle.number.specs.Width.{bytesIn}
 use Rattle.event.specs.Format.{maxOpen}
+use Rattle.layout.specs.FoundLaws.{refsOf}
 use Rattle.layout.specs.Layout.{lookOf, dueOf, sourceOf}
 use Rattle.layout.specs.Looked.{Source, Shape, container}
 use Rattle.layout.specs.Looked as looked
-use Rattle.layout.specs.declared.layout.Due.the-variants.{Member}
+use Rattle.layout.specs.References.{referencesOf}
+use Rattle.layout.specs.ReferencesLaws.{Dues, dues}
+use Rattle.layout.specs.declared.layout.Due.the-variants.{Close, Member}
 use Rattle.layout.specs.declared.layout.Layout.{Layout}
 use Rattle.layout.specs.declared.frame.Frame.{Frame}
 use Rattle.written.specs.EmissionLaws.{numbered-written}
 use Rattle.written.specs.File.{refSize, bytesAt, placeOf, tableAt, fileOf}
 use Rattle.written.specs.FirstLaws.{Stands, emission-told}
 use Rattle.written.specs.Graph.{Scalar, Kind, arr, dic, Piece, scalar, start, end, Name, val, box, kids, order, number, objectOf}
-use Rattle.written.specs.NameLaws.{In, drop-next, drop-lt}
+use Rattle.written.specs.NameLaws.{In, getD-map-lt}
 use Rattle.written.specs.NumberLaws.{order-in, number-at}
 use Rattle.written.specs.Shape.{inside, nameOf, isEnd}
 use Rattle.written.specs.Weigh.{counted}
 use Rattle.written.specs.WholeLaws.{Parity, whole-parity}
 use Rattle.written_claims.specs.FileShown.{fine, file-shows}
 use Rattle.written_claims.specs.Filled.{shapeOf}
-use Rattle.written_claims.specs.Back.{Known, eventBy, due-member, look-box, look-val}
+use Rattle.written_claims.specs.Back.{Known, eventBy, due-member, due-end, look-box, look-val}
 use Rattle.written_claims.specs.Laid.{layoutOf, object-there}
 use Rattle.written_claims.specs.Members.{membersOf, membersAt}
 use Rattle.written_claims.specs.ObjectLaws.{object-pos}
-use Rattle.written_claims.specs.References.{referred, referredFrom, manyOf, referencesIn, references}
+use Rattle.written_claims.specs.References.{namedIn, namedBy}
 use Rattle.written_claims.specs.Writable.{isVal, boxIn, Sound}
 
 -- a container that has a number begins at its place
@@ -62,10 +67,20 @@ numbered es i h = go (getD (order es) i (box 0)) (order-in es i (box 0) h) (numb
     go (box p) n e = holder p n e (box-begins es p n)
 
 -- a container's members are as many as its length says
-many-members : (k : Kind) (n : ℕ) → Parity (inside k) n → manyOf (shapeOf k) (counted k n) ≡ n
-unfolding manyOf counted
+many-members : (k : Kind) (n : ℕ) → Parity (inside k) n → refsOf (shapeOf k) (counted k n) ≡ n
+unfolding refsOf counted
 many-members arr n v = refl
 many-members dic n v = omega (arith, v)
+
+-- two lists with the same elements at the same places
+same-elements : (a b : List ℕ) → length a ≡ length b → ((i : ℕ) → i < length b → getElem? a i ≡ some (getD b i 0)) → a ≡ b
+same-elements [] [] e h = refl
+same-elements [] (y ∷ b) e h = absurd (omega arith)
+same-elements (x ∷ a) [] e h = absurd (omega arith)
+same-elements (x ∷ a) (y ∷ b) e h =
+    let q : some x ≡ some y = h 0 (omega arith) in
+    let t : x ≡ y = cc in
+    rw (t, same-elements a b (omega arith) (λ i lt. h (suc i) (omega arith)))
 
 module _ (es : List Piece) (g : Sound es) where
   abbrev file : List ℕ
@@ -101,21 +116,31 @@ module _ (es : List Piece) (g : Sound es) where
     known : (i : ℕ) (r : List Name) → drop i ms ≡ r → i ≤ length ms → Known es file src (placeOf es) (file-shows es g) (suc p) p r (frameAt i)
     known i r e u = record { kind = b .kind; post = b .post; before = omega arith; begins = b .there; named = h; obj-is = refl; len-is = refl; even = even; upto = u; rest = e }
 
-    -- the members are due in turn
-    all-due : (r : List Name) (i : ℕ) → drop i ms ≡ r → referredFrom file l (number es (box p)) long i (length r) ≡ map (number es) r
-    unfolding referredFrom referred sourceOf
-    all-due [] i e = refl
-    all-due (x ∷ r) i e =
-        let lt = drop-lt ms i x r e in
-        let d : dueOf file l (frameAt i) ≡ Member (number es x) = due-member es file src (placeOf es) (file-shows es g) (suc p) p x r (frameAt i) (known i (x ∷ r) e (omega arith)) in
-        rw d (ap (λ (t : List ℕ). number es x ∷ t) (all-due r (suc i) (drop-next ms i x r e)))
+    -- the reference at a position is that of the member there
+    listed : (i : ℕ) → i < length ms → getElem? (referencesOf file l (number es (box p))) i ≡ some (getD (map (number es) ms) i 0)
+    unfolding sourceOf
+    listed i lt =
+        let x : Name = getD ms i (box 0) in
+        let e : drop i ms ≡ x ∷ drop (suc i) ms = drop-cons ms i (box 0) lt in
+        let d : dueOf file l (frameAt i) ≡ Member (number es x) = due-member es file src (placeOf es) (file-shows es g) (suc p) p x (drop (suc i) ms) (frameAt i) (known i _ e (omega arith)) in
+        let t : getElem? (referencesOf file l (number es (box p))) i ≡ some (number es x) = rw d at (dues file l (frameAt i)) in
+        t ∙ ap some (sym (getD-map-lt (number es) ms i (box 0) 0 lt))
 
-    pub references-holder : references file l (number es (box p)) ≡ map (number es) (membersOf es (box p))
-    unfolding references referencesIn membersOf membersAt
-    references-holder = rw (look-holder, b .there, many-members (b .kind) (length ms) even) (all-due ms 0 refl)
+    -- they are as many as the members
+    counted-refs : length (referencesOf file l (number es (box p))) ≡ length ms
+    unfolding sourceOf
+    counted-refs =
+        let e : drop (length ms) ms ≡ [] = drop-length ms in
+        let d : dueOf file l (frameAt (length ms)) ≡ Close (placeOf es (box p)) = due-end es file src (placeOf es) (file-shows es g) (suc p) p (frameAt (length ms)) (known (length ms) [] e (omega arith)) in
+        let t : Dues file l (frameAt (length ms)) (Close (placeOf es (box p))) = rw d at (dues file l (frameAt (length ms))) in
+        sym (t .1)
+
+    pub references-holder : namedBy file l (number es (box p)) ≡ map (number es) (membersOf es (box p))
+    unfolding namedBy namedIn membersOf membersAt
+    references-holder = rw (look-holder, b .there) (same-elements _ _ (counted-refs ∙ sym (length-map ms (number es))) (λ i h. listed i (rw (length-map ms (number es)) at h)))
 
     -- as many as its length says
-    pub references-many : (s : Shape) (k at : ℕ) → lookOf file l (number es (box p)) ≡ container s k at → length (references file l (number es (box p))) ≡ manyOf s k
+    pub references-many : (s : Shape) (k at : ℕ) → lookOf file l (number es (box p)) ≡ container s k at → length (namedBy file l (number es (box p))) ≡ refsOf s k
     unfolding membersOf membersAt
     references-many s k at look =
         let t : container (shapeOf (b .kind)) long (placeOf es (box p)) ≡ container s k at = sym look-holder ∙ look in
@@ -123,19 +148,19 @@ module _ (es : List Piece) (g : Sound es) where
         let v : long ≡ k = cc in
         rw (references-holder, length-map, b .there, ← u, ← v) (sym (many-members (b .kind) (length ms) even))
 
-  references-value : (s : Scalar) → In (val s) (order es) → references file l (number es (val s)) ≡ []
-  unfolding references referencesIn
+  references-value : (s : Scalar) → In (val s) (order es) → namedBy file l (number es (val s)) ≡ []
+  unfolding namedBy namedIn
   references-value s h = rw (look-value s h)
 
   -- THE REFERENCES of an object are the numbers of its members, in order
-  pub references-are : (x : Name) → In x (order es) → references file l (number es x) ≡ map (number es) (membersOf es x)
+  pub references-are : (x : Name) → In x (order es) → namedBy file l (number es x) ≡ map (number es) (membersOf es x)
   unfolding membersOf
   references-are (val s) h = references-value s h
   references-are (box p) h = references-holder p h (box-begins es p h)
 
   -- a number at or above the count has none
-  pub references-none : (i : ℕ) → length (order es) ≤ i → references file l i ≡ []
-  unfolding references referencesIn lookOf
+  pub references-none : (i : ℕ) → length (order es) ≤ i → namedBy file l i ≡ []
+  unfolding namedBy namedIn lookOf
   references-none i h = rw (le-ltb i (length (order es)) h)
 
   -- an object's offset is below the table

@@ -10,6 +10,7 @@ use lib.Dec.{ltb, lit<, lit≤}
 use lib.IntN.{ℤ, pos, negsuc}
 use lib.ListN.{length}
 use Rattle.number.specs.Be.{be, bytesOf}
+use Rattle.number.specs.BeLaws.{length-bytesOf}
 use Rattle.number.specs.Signed.{signedOf, bitsOf}
 use Rattle.number.specs.SignedLaws.{signed-bits}
 use Rattle.number.specs.Size.{sizeOf}
@@ -24,14 +25,14 @@ use Rattle.event.specs.declared.Integer.the-variants.{Signed, Unsigned}
 use Rattle.unicode.specs.Unicode.{isAscii, isUtf8, utf16, scalars8, toUtf8, toUtf16}
 use Rattle.unicode.specs.ChangeLaws.{toUtf16-good, toUtf8-toUtf16}
 use Rattle.unicode.specs.ToUtf16Walk.{length-utf16, counted}
-use Rattle.object.specs.Content.{part}
+use Rattle.number.specs.Part.{part}
 use Rattle.object.specs.Kind.{kindOf}
 use Rattle.object.specs.KindLaws.{kind-data, kind-utf8, kind-utf16, kind-uid}
-use Rattle.object.specs.Object.{Found, byKind, objectAt, wideIn, dataIn, utf8In, utf16In}
+use Rattle.object.specs.Object.{Found, fixedAt, unsignedIn, signedIn, realIn, dateIn, uidIn, byKind, objectAt, wideIn, dataIn, utf8In, utf16In}
 use Rattle.object.specs.Object as found
 use Rattle.object.specs.declared.kind.Kind.the-variants as kind
 use Rattle.tape.specs.Code.{InRange, allowed, OnTape}
-use Rattle.written_claims.specs.HeadLaws.{marker-decides, kind-nibble, headed}
+use Rattle.written_claims.specs.HeadLaws.{marker-decides, fixed-reads, kind-nibble, headed}
 use Rattle.written_claims.specs.Stands.{Whole, stands-back, stands-part, stands-number}
 use Rattle.written.specs.Encoding.{sizeMarker, numberBytes, integerBytes, nibbleOf, headBytes, textBytes, scalarBytes}
 use Rattle.written.specs.Scalar.{IsScalar}
@@ -59,13 +60,18 @@ bits-lt k = omega arith
 
 module _ (file : List ℕ) (at : ℕ) where
   -- an event that a marker gives of a number of w bytes
-  number-reads : (marker w n : ℕ) (f : ℕ → Event) (m : Meaning)
-      → ((refs : Width) → byKind file refs at (kindOf marker) ≡ found.scalar (f (be (part file (at + 1) w))))
-      → n < 256 ^ w → ((s : List ℕ) → meaningOf (f n) s ≡ m)
+  number-reads : (marker w n : ℕ) (read : List ℕ → Found) (e : Event) (m : Meaning)
+      → ((refs : Width) → byKind file refs at (kindOf marker) ≡ fixedAt file at w read)
+      → ((s : List ℕ) → be s ≡ n → read s ≡ found.scalar e)
+      → n < 256 ^ w → ((s : List ℕ) → meaningOf e s ≡ m)
       → Whole file at (marker ∷ bytesOf w n) → Reads file at m
-  number-reads marker w n f m by fits means wh =
+  number-reads marker w n read e m by gives fits means wh =
       let v : be (part file (at + 1) w) ≡ n = stands-number file (at + 1) w n fits (stands-back file at (marker ∷ []) (bytesOf w n) (wh .stands)) in
-      record { there = found.scalar (f n); is = λ refs. marker-decides file refs at marker (bytesOf w n) wh ∙ by refs ∙ ap (λ (x : ℕ). found.scalar (f x)) v; says = means }
+      record {
+        there = found.scalar e;
+        is = λ refs. marker-decides file refs at marker (bytesOf w n) wh ∙ by refs ∙ fixed-reads file at w read marker (bytesOf w n) (length-bytesOf w n) wh ∙ gives (part file (at + 1) w) v;
+        says = means;
+      }
 
   boolean-reads : (b : Bool) → Whole file at (scalarBytes (boolean b)) → Reads file at (boolean b)
   unfolding scalarBytes byKind kindOf meaningOf
@@ -74,11 +80,11 @@ module _ (file : List ℕ) (at : ℕ) where
 
   real-reads : (b : ℕ) → b < 2 ^ 64 → Whole file at (scalarBytes (real b)) → Reads file at (real b)
   unfolding scalarBytes byKind kindOf
-  real-reads b h wh = number-reads 0x23 8 b realOf (real b) (λ refs. refl) h (λ s. real-bits b s h) wh
+  real-reads b h wh = number-reads 0x23 8 b realIn (realOf b) (real b) (λ refs. refl) (λ s v. rw v) h (λ s. real-bits b s h) wh
 
   date-reads : (b : ℕ) → b < 2 ^ 64 → Whole file at (scalarBytes (date b)) → Reads file at (date b)
   unfolding scalarBytes byKind kindOf meaningOf
-  date-reads b h wh = number-reads 0x33 8 b Date (date b) (λ refs. refl) h (λ s. refl) wh
+  date-reads b h wh = number-reads 0x33 8 b dateIn (Date b) (date b) (λ refs. refl) (λ s v. rw v) h (λ s. refl) wh
 
   uid-reads : (n : ℕ) → n < 2 ^ 64 → Whole file at (scalarBytes (uid n)) → Reads file at (uid n)
   unfolding scalarBytes byKind meaningOf
@@ -86,21 +92,25 @@ module _ (file : List ℕ) (at : ℕ) where
       let w = sizeOf n in
       let le : w ≤ 8 = sized-le (sized n) in
       let gt : 0 < w = sized-pos (sized n) in
-      number-reads (0x7F + w) w n Uid (uid n) (λ refs. rw (kind-uid (0x7F + w) (omega arith) (omega arith), add-sub-cancel-left)) (fits-itself n h) (λ s. refl) wh
+      number-reads (0x7F + w) w n uidIn (Uid n) (uid n) (λ refs. rw (kind-uid (0x7F + w) (omega arith) (omega arith), add-sub-cancel-left)) (λ s v. rw v) (fits-itself n h) (λ s. refl) wh
 
   -- an integer below 2^63 of any of the four sizes
   sized-reads : (w n : ℕ) → Sized w → n < 256 ^ w → n < 2 ^ 63 → Whole file at (sizeMarker w ∷ bytesOf w n) → Reads file at (integer (pos n))
   unfolding sizeMarker byKind kindOf meaningOf valueOf signedOf
-  sized-reads _ n one h g wh = number-reads 0x10 1 n (λ (x : ℕ). Integer (Unsigned x)) (integer (pos n)) (λ refs. refl) h (λ s. refl) wh
-  sized-reads _ n two h g wh = number-reads 0x11 2 n (λ (x : ℕ). Integer (Unsigned x)) (integer (pos n)) (λ refs. refl) h (λ s. refl) wh
-  sized-reads _ n four h g wh = number-reads 0x12 4 n (λ (x : ℕ). Integer (Unsigned x)) (integer (pos n)) (λ refs. refl) h (λ s. refl) wh
-  sized-reads _ n eight h g wh = number-reads 0x13 8 n (λ (x : ℕ). Integer (Signed (signedOf x))) (integer (pos n)) (λ refs. refl) h (λ s. rw (lt-ltb n 0x8000_0000_0000_0000 g)) wh
+  sized-reads _ n one h g wh = number-reads 0x10 1 n unsignedIn (Integer (Unsigned n)) (integer (pos n)) (λ refs. refl) (λ s v. rw v) h (λ s. refl) wh
+  sized-reads _ n two h g wh = number-reads 0x11 2 n unsignedIn (Integer (Unsigned n)) (integer (pos n)) (λ refs. refl) (λ s v. rw v) h (λ s. refl) wh
+  sized-reads _ n four h g wh = number-reads 0x12 4 n unsignedIn (Integer (Unsigned n)) (integer (pos n)) (λ refs. refl) (λ s v. rw v) h (λ s. refl) wh
+  sized-reads _ n eight h g wh = number-reads 0x13 8 n signedIn (Integer (Signed (signedOf n))) (integer (pos n)) (λ refs. refl) (λ s v. rw v) h (λ s. rw (lt-ltb n 0x8000_0000_0000_0000 g)) wh
 
   wide-reads : (n : ℕ) → n < 2 ^ 64 → Whole file at (0x14 ∷ bytesOf 16 n) → Reads file at (integer (pos n))
   unfolding byKind kindOf wideIn meaningOf valueOf
   wide-reads n h wh =
       let v : be (part file (at + 1) 16) ≡ n = stands-number file (at + 1) 16 n (lt-of-lt-of-le h (pow-le-pow-right {n = 256} (lit< tt) (let g : 8 ≤ 16 = lit≤ tt in g))) (stands-back file at (0x14 ∷ []) (bytesOf 16 n) (wh .stands)) in
-      record { there = found.scalar (Integer (Unsigned n)); is = λ refs. marker-decides file refs at 0x14 (bytesOf 16 n) wh ∙ rw (v, lt-ltb n (2 ^ 64) h); says = λ s. refl }
+      record {
+        there = found.scalar (Integer (Unsigned n));
+        is = λ refs. marker-decides file refs at 0x14 (bytesOf 16 n) wh ∙ fixed-reads file at 16 wideIn 0x14 (bytesOf 16 n) (length-bytesOf 16 n) wh ∙ rw (v, lt-ltb n (2 ^ 64) h);
+        says = λ s. refl;
+      }
 
   integer-reads : (z : ℤ) → InRange (integer z) → Whole file at (integerBytes z) → Reads file at (integer z)
   unfolding integerBytes numberBytes byKind kindOf meaningOf valueOf
@@ -110,7 +120,7 @@ module _ (file : List ℕ) (at : ℕ) where
       go true e = sized-reads (sizeOf n) n (sized n) (fits-itself n h) (ltb-true n (2 ^ 63) e) (rw e at wh)
       go false e = wide-reads n h (rw e at wh)
   integer-reads (negsuc k) h wh =
-      number-reads 0x13 8 (bitsOf (negsuc k)) (λ (x : ℕ). Integer (Signed (signedOf x))) (integer (negsuc k)) (λ refs. refl) (bits-lt k) (λ s. ap integer (signed-bits (negsuc k) (record { sfits = h }))) wh
+      number-reads 0x13 8 (bitsOf (negsuc k)) signedIn (Integer (Signed (signedOf (bitsOf (negsuc k))))) (integer (negsuc k)) (λ refs. refl) (λ s v. rw v) (bits-lt k) (λ s. ap integer (signed-bits (negsuc k) (record { sfits = h }))) wh
 
   data-reads : (s : List ℕ) → length s < 2 ^ 64 → Whole file at (scalarBytes (bytes s)) → Reads file at (bytes s)
   unfolding scalarBytes byKind dataIn

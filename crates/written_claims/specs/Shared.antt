@@ -20,7 +20,7 @@ use Rattle.written.specs.NumberLaws.{number-lt, number-at, number-one, order-in
 use Rattle.written_claims.specs.Laid.{layoutOf}
 use Rattle.written_claims.specs.Members.{membersOf, Parent, own-parent, parent-own, member-named, parent-or-root}
 use Rattle.written_claims.specs.Objects.{references-are, references-none}
-use Rattle.written_claims.specs.References.{references, allReferences, Names, Reached, at-root, along, mentions}
+use Rattle.written_claims.specs.References.{namedBy, allReferences, Names, Reached, at-root, along, mentions}
 use Rattle.written_claims.specs.Sharing.{parent-numbered, lower, own-times, parent-before}
 use Rattle.written_claims.specs.Writable.{Sound}
 
@@ -77,7 +77,7 @@ module _ (es : List Piece) (g : Sound es) where
   abbrev l : Layout
   l = layoutOf es
 
-  refs-are : (x : Name) → In x (order es) → references file l (number es x) ≡ map (number es) (membersOf es x)
+  refs-are : (x : Name) → In x (order es) → namedBy file l (number es x) ≡ map (number es) (membersOf es x)
   refs-are = references-are es g
 
   -- object m names object i: a name and its member
@@ -124,7 +124,7 @@ module _ (es : List Piece) (g : Sound es) where
       let d : getD (order es) n (box 0) ≡ y = drop-getD (order es) n y (box 0) r e in
       let q : number es y ≡ n = rw d at (number-at es n (box 0) lt) in
       let o : In y (order es) = rw d at (order-in es n (box 0) lt) in
-      let a : references file l n ≡ map (number es) (membersOf es y) = rw q at (refs-are y o) in
+      let a : namedBy file l n ≡ map (number es) (membersOf es y) = rw q at (refs-are y o) in
       rw a (mentions-append (number es x) (map (number es) (membersOf es y)) (allReferences file l (suc n) (length r))
       ∙ rw (mentions-map es x h (membersOf es y) (λ z i. member-named es y z i), f y, mentions-sum x h g f r (suc n) (drop-next (order es) n y r e)))
 

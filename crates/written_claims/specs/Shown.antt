@@ -9,7 +9,7 @@ use Rattle.unicode.specs.Unicode.{isAscii, toUtf8}
 use Rattle.event.specs.Meaning.{Meaning}
 use Rattle.event.specs.declared.Event.{Event}
 use Rattle.event.specs.declared.Event.the-variants.{String}
-use Rattle.object.specs.Content.{part}
+use Rattle.number.specs.Part.{part}
 use Rattle.layout.specs.Looked.{Source, scalar, container, array, dictionary}
 use Rattle.layout.specs.Bytes.{Asked, inFile, inUtf16, noBytes, denied, eventAsked, hasBytes}
 use Rattle.layout.specs.declared.layout.Due.the-variants.{Close, Member}

@@ -8,7 +8,8 @@ use lib.ListN.{length, getD, drop, length-append, length-drop}
 use lib.Seq.{take-at, drop-at, drop-drop, getD-drop}
 use Rattle.number.specs.Be.{be, bytesOf}
 use Rattle.number.specs.BeLaws.{length-bytesOf, be-bytesOf}
-use Rattle.object.specs.Content.{part, trailerAt}
+use Rattle.number.specs.Part.{part}
+use Rattle.object.specs.Content.{trailerAt}
 
 -- from an offset on a file has the bytes s, and then others
 pub record Stands (file : List ℕ) (at : ℕ) (s : List ℕ) : Type 0 where

@@ -10,7 +10,8 @@ use Rattle.number.specs.Be.{be, bytesOf}
 use Rattle.number.specs.BeLaws.{length-bytesOf}
 use Rattle.number.specs.Width.{bytesIn}
 use Rattle.number.specs.WidthLaws.{allowed}
-use Rattle.object.specs.Content.{part, trailerAt}
+use Rattle.number.specs.Part.{part}
+use Rattle.object.specs.Content.{trailerAt}
 use Rattle.event.specs.Format.{magic}
 use Rattle.layout.specs.Trailer.{lays, begins, eightAt, tableOf, refSizeOf, sizesOf, trailerOf}
 use Rattle.layout.specs.declared.layout.Layout.{Layout}

@@ -21,7 +21,7 @@ use Rattle.reader.specs.declared.state.Reader.{Reader}
 use Rattle.tape.specs.Append.{appendOf, appendTo, putOf, putTo, fits}
 use Rattle.tape.specs.Code.{bytesFor, allowed}
 use Rattle.tape.specs.Events.{tapeOf}
-use Rattle.transcribe.specs.HandedLaws.{plain-means}
+use Rattle.transcribe.specs.HandedLaws.{plain-same}
 use Rattle.transcribe.specs.Note.{kept, noting, putNote, textNote, noteOf, fromTape}
 use Rattle.transcribe.specs.Run.{run, ended, byNoted, byNote, bySaid, runOf}
 use Rattle.transcribe.specs.TranscriptLaws.{Put, meaningsOf}
@@ -45,7 +45,7 @@ module _ (file : List ℕ) where
       asked = bytesAsked file (eventAsked file (h .e) (p .offset))
 
       go : (b : Bool) → hasBytes (h .e) ≡ b → (s : List ℕ) × (length s ≡ length scratch) × (noteOf file scratch tape held (recordOf (h .e) (p .offset)) ≡ putNote s tape held (p .meaning))
-      go false f = (scratch, refl, rw f (ap (putNote scratch tape held) (sym (plain-means (h .e) asked f .0) ∙ h .means)))
+      go false f = (scratch, refl, rw f (ap (putNote scratch tape held) (sym (plain-same (h .e) asked f) ∙ h .means)))
       go true f =
           let k = h .gives scratch room in
           let c : contentOf (p .meaning) ≡ asked = ap contentOf (sym (h .means)) ∙ content-is (h .e) asked f in

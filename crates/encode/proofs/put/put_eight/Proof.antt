@@ -46,12 +46,10 @@ part-write-bytes-end : tie.Need-part-write-bytes-end
 part-write-bytes-end c = omega (arith, room (c .before .before))
 
 write-bytes-requires : tie.Need-write-bytes-requires
-write-bytes-requires c κs =
-    let a = c .before .before .before .before .before .before .before .args in
-    simp length-set (omega (arith, length-between (a .tape .now) (a .at) 8 (room (c .before .before .before))))
+write-bytes-requires c κs = search needs
 
 same-length : tie.Need-same-length
-same-length c = ap length (c .before .before .write-bytes .ensures .1) ∙ simp (length-sets, length-set)
+same-length c = ap length (c .before .before .write-bytes .ensures) ∙ simp (length-sets, length-set)
 
 returns-3 : tie.Need-returns-3
 returns-3 c =
@@ -59,7 +57,7 @@ returns-3 c =
     let r = room (c .before .before .before .before .before .before) in
     let n = length-between (a .tape .now) (a .at) 8 r in
     let w = c .before .before .write-bytes .ensures in
-    renamed _ (eight-part (a .tape .now) (a .at) (a .marker) r) (written _ _ (omega arith) (omega (arith, w .0)) (w .1))
+    renamed _ (eight-part (a .tape .now) (a .at) (a .marker) r) (written _ _ (omega arith) (omega arith) w)
 
 pub put-eight-spec : {M : Type 1} → statement M
 put-eight-spec =

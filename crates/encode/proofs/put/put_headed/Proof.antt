@@ -3,7 +3,6 @@ use mathlib.Core.Path.{_∙_}
 use Prim.Native.Nat.{_+_, _≤_, _<_}
 use native.Mathlib.Omega.{arith}
 use lib.ListN.{length}
-use lib.Seq.{length-sets}
 use Rattle.tape.proofs.Tests.{lacks, has}
 use Rattle.encode.specs.Put.{baseOf}
 use Rattle.encode.specs.Size.{headSize}
@@ -36,9 +35,12 @@ write-head-requires : tie.Need-write-head-requires
 write-head-requires c κs = omega (arith, room (c .before))
 
 write-bytes-requires : tie.Need-write-bytes-requires
-write-bytes-requires c κs =
-    let w = c .before .before .before .write-head .ensures in
-    rw (w .0, w .1) (simp length-sets (room (c .before .before .before .before .before)))
+write-bytes-requires c κs = search needs
+
+add-result : tie.Need-add-result
+add-result c =
+    let h = c .before .before .before .before .before .before .write-head .ensures in
+    omega (arith, room (c .before .before .before .before .before .before .before .before), h .0)
 
 same-length : tie.Need-same-length
 same-length c = search needs
@@ -50,7 +52,7 @@ returns-2 c =
     let n = headed-length (baseOf (a .base)) s in
     let h = c .before .before .before .before .before .before .write-head .ensures in
     let w = c .before .before .write-bytes .ensures in
-    written _ _ (omega (arith, room (c .before .before .before .before .before .before .before .before))) (omega (arith, w .0, h .0)) (w .1 ∙ rw (h .0, h .1) (headed-sets (baseOf (a .base)) s (a .out .now)))
+    written _ _ (omega (arith, room (c .before .before .before .before .before .before .before .before))) (omega (arith, h .0)) (w ∙ rw (h .0, h .1) (headed-sets (baseOf (a .base)) s (a .out .now)))
 
 pub put-headed-spec : {M : Type 1} → statement M
 put-headed-spec =
@@ -61,5 +63,6 @@ put-headed-spec =
     returns
     write-head-requires
     write-bytes-requires
+    add-result
     same-length
     returns-2)

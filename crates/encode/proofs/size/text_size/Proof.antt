@@ -9,7 +9,7 @@ use borrow.Author.Tests.{ltb-true, ltb-false}
 use lib.Dec.{ltb}
 use lib.ListN.{length}
 use Rattle.number.specs.BeLaws.{bytes-of}
-use Rattle.tape.specs.PartLaws.{length-part}
+use Rattle.number.specs.PartLaws.{length-part}
 use Rattle.tape.specs.StandsLaws.{number-far}
 use Rattle.encode.specs.Size.{textSize}
 use Rattle.encode.proofs.size.text_size.Statement.{statement}

@@ -3,7 +3,7 @@ use mathlib.Core.Path.{_≡_, sym, ap, _∙_}
 use borrow.Author.Needs.{needs}
 use borrow.Author.Tests.{le-ltb, lt-ltb}
 use Rattle.object.specs.Found.{foundOf}
-use Rattle.object.specs.Object.{Found}
+use Rattle.object.specs.Object.{Found, refusedBy}
 use Rattle.layout.specs.Bytes.{lookedBytes}
 use Rattle.layout.specs.FoundLaws.{foundBytes}
 use Rattle.layout.specs.Layout.{lookOf, lookFrom, lookIn}
@@ -85,7 +85,7 @@ unfolding withPlace lookIn foundBytes lookSaid lookBytes askedSaid shapeSaid fou
 returns-3 c = says (c .before .before) _ (ap foundOf (c .enum-told2 .given .1))
 
 returns-4 : tie.Need-returns-4
-unfolding withPlace lookIn foundBytes lookSaid lookBytes askedSaid shapeSaid foundOf numberOf valuesOf
+unfolding withPlace lookIn foundBytes lookSaid lookBytes askedSaid shapeSaid foundOf refusedBy numberOf valuesOf
 returns-4 c =
     let w = says (c .before .before .before .before) _ (ap foundOf (c .before .before .refusal .given .1)) in
     (rw (c .refusal-of .ensures .number, c .refusal-of .ensures .values) (w .0), w .1)

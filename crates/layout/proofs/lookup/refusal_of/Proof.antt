@@ -1,5 +1,5 @@
 -- `refusal_of` keeps number and values.
-use Rattle.object.specs.Found.{numberOf as objectNumber, valuesOf as objectValues}
+use Rattle.object.specs.Refusal.{numberOf as objectNumber, valuesOf as objectValues}
 use Rattle.layout.specs.Said.{numberOf, valuesOf}
 use borrow.Author.Needs.{needs}
 use Rattle.layout.proofs.lookup.refusal_of.Statement.{statement}

@@ -1,12 +1,10 @@
--- `container_at`: two ranges of markers, and none outside them.
+-- `container_at`: the kind decides, and an array's or dictionary's head tells the rest.
 use mathlib.Core.Path.{_≡_, sym, _∙_}
 use native.Mathlib.Omega.{arith}
 use borrow.Author.Needs.{needs}
-use lib.ListN.{getD}
-use Rattle.object.specs.Container.{containerOf, containerAt}
-use Rattle.object.specs.ContainerLaws.{none-below, none-between, none-above, container-outside, container-inside}
-use Rattle.object.specs.Kind.{kindOf}
-use Rattle.object.specs.KindLaws.{kind-array, kind-dictionary}
+use Rattle.object.specs.Container.{arrayOf, dictionaryOf, containerOf, containerAt}
+use Rattle.object.specs.ContainerLaws.{container-outside, container-inside}
+use Rattle.object.proofs.Others.{no-container}
 use Rattle.object.proofs.container.container_at.Statement.{statement}
 use Rattle.object.proofs.container.container_at.Tie as tie
 
@@ -19,42 +17,61 @@ sub-if2 c = search needs
 returns-2 : tie.Need-returns-2
 returns-2 c = sym (container-outside _ _ (c .if2 .taken))
 
-shared-slice-read-marker : tie.Need-shared-slice-read-marker
-shared-slice-read-marker c = search needs
+shared-slice-read-kind-of : tie.Need-shared-slice-read-kind-of
+shared-slice-read-kind-of c = search needs
 
-extent-at-requires : tie.Need-extent-at-requires
-extent-at-requires c κs = search needs
+kind-of-requires : tie.Need-kind-of-requires
+kind-of-requires c κs = search needs
 
-extent-at-requires-2 : tie.Need-extent-at-requires-2
-extent-at-requires-2 c κs = search needs
+-- what is there is what the kind says
+there :
+    (c : tie.After-kind-of) →
+    let a = c .before .before .before .before .before .args in
+    containerAt (a .file .now) (a .offset) ≡ containerOf (a .file .now) (a .offset) (c .kind-of .result)
+there c = rw (c .kind-of .ensures) (container-inside _ _ (omega arith))
 
--- below T the marker decides
-inside :
-    (c : tie.After-shared-slice-known2) →
-    let a = c .before .before .before .before .args in
-    containerAt (a .file .now) (a .offset) ≡ containerOf (a .file .now) (a .offset) (kindOf (getD (a .file .now) (a .offset) 0))
-inside c = container-inside _ _ (omega arith)
+enum-known-nibble : tie.Need-enum-known-nibble
+enum-known-nibble c = search needs
+
+head-at-requires : tie.Need-head-at-requires
+head-at-requires c κs = search needs
+
+enum-known-extent : tie.Need-enum-known-extent
+enum-known-extent c = search needs
+
+enum-told : tie.Need-enum-told
+enum-told c = search needs
 
 returns-3 : tie.Need-returns-3
-unfolding containerOf
-returns-3 c =
-    let a = c .before .before .before .before .before .before .before .args in
-    rw (inside (c .before .before .before), kind-array (getD (a .file .now) (a .offset) 0) (omega arith) (omega arith), c .extent-at .ensures)
+unfolding containerOf arrayOf
+returns-3 c = rw (there (c .before .before .before .before .before .before), c .before .before .before .before .nibble .given .1, sym (c .before .before .head-at .ensures) ∙ c .enum-told .given .1)
+
+enum-known-nibble-2 : tie.Need-enum-known-nibble-2
+enum-known-nibble-2 c = search needs
+
+head-at-requires-2 : tie.Need-head-at-requires-2
+head-at-requires-2 c κs = search needs
+
+enum-known-extent-2 : tie.Need-enum-known-extent-2
+enum-known-extent-2 c = search needs
+
+enum-told-2 : tie.Need-enum-told-2
+enum-told-2 c = search needs
 
 returns-4 : tie.Need-returns-4
-unfolding containerOf
-returns-4 c =
-    let a = c .before .before .before .before .before .before .before .before .before .args in
-    rw (inside (c .before .before .before .before .before), kind-dictionary (getD (a .file .now) (a .offset) 0) (omega arith) (omega arith), c .extent-at2 .ensures)
+unfolding containerOf dictionaryOf
+returns-4 c = rw (there (c .before .before .before .before .before .before), c .before .before .before .before .nibble2 .given .1, sym (c .before .before .head-at2 .ensures) ∙ c .enum-told2 .given .1)
 
 returns-5 : tie.Need-returns-5
-returns-5 c = sym (inside (c .before) ∙ none-below _ _ _ (c .if3 .taken))
+unfolding containerOf arrayOf
+returns-5 c = rw (there (c .before .before .before .before .before .before .before), c .before .before .before .before .before .nibble .given .1, sym (c .before .before .before .head-at .ensures) ∙ c .before .extent .given .1)
 
 returns-6 : tie.Need-returns-6
-returns-6 c = sym (inside (c .before .before .before) ∙ none-between _ _ _ (c .before .if4 .left) (c .if5 .taken))
+unfolding containerOf dictionaryOf
+returns-6 c = rw (there (c .before .before .before .before .before .before .before), c .before .before .before .before .before .nibble2 .given .1, sym (c .before .before .before .head-at2 .ensures) ∙ c .before .extent2 .given .1)
 
 returns-7 : tie.Need-returns-7
-returns-7 c = sym (inside (c .before .before .before .before) ∙ none-above _ _ _ (c .if6 .left) (omega (arith, c .before .before .before .before .shared-slice-known2 .given (c .before .before .before .before .before .before .before .before .args .offset))))
+returns-7 c = rw (there (c .before), no-container _ _ (c .before .kind-of .result) (c .match .keys3))
 
 pub container-at-spec : {M : Type 1} → statement M
 container-at-spec =
@@ -63,10 +80,17 @@ container-at-spec =
     returns
     sub-if2
     returns-2
-    shared-slice-read-marker
-    extent-at-requires
-    extent-at-requires-2
+    shared-slice-read-kind-of
+    kind-of-requires
+    enum-known-nibble
+    head-at-requires
+    enum-known-extent
+    enum-told
     returns-3
+    enum-known-nibble-2
+    head-at-requires-2
+    enum-known-extent-2
+    enum-told-2
     returns-4
     returns-5
     returns-6

@@ -5,8 +5,8 @@ use native.Mathlib.Omega.{arith}
 use borrow.Author.Needs.{needs}
 use Rattle.number.specs.Be.{be}
 use Rattle.number.specs.declared.be.Number.the-variants.{Of}
-use Rattle.object.specs.Content.{part}
-use Rattle.object.proofs.Numbers.{number-at}
+use Rattle.number.specs.Part.{part}
+use Rattle.number.specs.PartLaws.{number-part}
 use Rattle.object.proofs.content.be_at.Statement.{statement}
 use Rattle.object.proofs.content.be_at.Tie as tie
 
@@ -35,7 +35,7 @@ is-number : (c : tie.After-read-be) → let a = c .before .before .before .args 
 is-number c =
     let a = c .before .before .before .args in
     let p = c .before .before .before .pre in
-    c .read-be .ensures ∙ number-at (a .file .now) (a .at) (a .width) (p .0) (p .1) (p .2)
+    c .read-be .ensures ∙ number-part (a .file .now) (a .at) (a .width) (p .2) (p .0) (p .1)
 
 returns : tie.Need-returns
 returns c =

@@ -1,8 +1,8 @@
--- `array_at`: the number of references, where they fit.
+-- `array_at`: the number of elements, where its content has room.
 use mathlib.Core.Path.{sym, _∙_}
 use borrow.Author.Needs.{needs}
 use Rattle.number.specs.WidthLaws.{bytesIn-pos}
-use Rattle.object.specs.Found.{numberOf, valuesOf, foundOf}
+use Rattle.object.specs.Found.{foundOf}
 use Rattle.object.specs.Object.{arrayIn}
 use Rattle.object.proofs.read.array_at.Statement.{statement}
 use Rattle.object.proofs.read.array_at.Tie as tie
@@ -13,15 +13,15 @@ bytes-in-requires c κs = search needs
 content-at-requires : tie.Need-content-at-requires
 content-at-requires c κs = (search needs, rw (c .bytes-in .ensures) (bytesIn-pos _))
 
+enum-known-refusal : tie.Need-enum-known-refusal
+enum-known-refusal c = search needs
+
 enum-known-extent : tie.Need-enum-known-extent
 enum-known-extent c = search needs
 
-enum-told : tie.Need-enum-told
-enum-told c = search needs
-
 returns : tie.Need-returns
-unfolding foundOf numberOf valuesOf arrayIn
-returns c = rw (← c .before .before .before .bytes-in .ensures, sym (c .before .before .content-at .ensures) ∙ c .enum-told .given .1)
+unfolding foundOf arrayIn
+returns c = rw (← c .before .before .before .before .bytes-in .ensures, sym (c .before .before .before .content-at .ensures) ∙ c .before .refusal .given .1)
 
 returns-2 : tie.Need-returns-2
 unfolding foundOf arrayIn
@@ -30,4 +30,10 @@ returns-2 c = rw (← c .before .before .before .before .bytes-in .ensures, sym 
 pub array-at-spec : {M : Type 1} → statement M
 array-at-spec =
     tie.close
-    (tie.spec bytes-in-requires content-at-requires enum-known-extent enum-told returns returns-2)
+    (tie.spec
+    bytes-in-requires
+    content-at-requires
+    enum-known-refusal
+    enum-known-extent
+    returns
+    returns-2)

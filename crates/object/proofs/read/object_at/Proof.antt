@@ -8,11 +8,11 @@ use mir.Val.{SFits}
 use borrow.Author.Needs.{needs}
 use lib.ListN.{getD}
 use Rattle.number.specs.BeLaws.{Bytes, bytes-of}
-use Rattle.object.specs.Found.{numberOf, valuesOf, foundOf}
+use Rattle.object.specs.Found.{foundOf}
 use Rattle.object.specs.KindLaws.{widthIn, width-pos, width-le}
-use Rattle.object.specs.Object.{byKind, objectAt}
+use Rattle.object.specs.Object.{byKind, fixedAt, objectAt}
 use Rattle.object.specs.ObjectLaws.{object-outside, object-inside}
-use Rattle.object.specs.PartLaws.{part-lt}
+use Rattle.number.specs.PartLaws.{part-lt}
 use Rattle.object.proofs.read.object_at.Statement.{statement}
 use Rattle.object.proofs.read.object_at.Tie as tie
 
@@ -180,73 +180,73 @@ enum-known-marker : tie.Need-enum-known-marker
 enum-known-marker c = search needs
 
 returns-3 : tie.Need-returns-3
-unfolding byKind foundOf numberOf valuesOf
+unfolding byKind fixedAt foundOf
 returns-3 c = rw (there (c .before .before), c .enum-told .given .1)
 
 returns-4 : tie.Need-returns-4
-unfolding byKind foundOf
+unfolding byKind fixedAt foundOf
 returns-4 c = rw (there (c .before .before), c .enum-told2 .given .1)
 
 returns-5 : tie.Need-returns-5
-unfolding byKind foundOf
+unfolding byKind fixedAt foundOf
 returns-5 c = rw (there (c .before .before), c .enum-told3 .given .1)
 
 returns-6 : tie.Need-returns-6
-unfolding byKind foundOf numberOf valuesOf
+unfolding byKind fixedAt foundOf
 returns-6 c = rw (there (c .before .before), c .enum-told4 .given .1)
 
 returns-7 : tie.Need-returns-7
-unfolding byKind
+unfolding byKind fixedAt
 returns-7 c = rw (there (c .before .before .before .before .before), c .before .before .before .width .given .1, c .integer .ensures, c .before .be-at .ensures)
 
 returns-8 : tie.Need-returns-8
-unfolding byKind
+unfolding byKind fixedAt
 returns-8 c =
     let s : SFits w64 (c .before .signed-of .result) = search needs in
     rw (there (c .before .before .before .before .before), c .before .before .before .enum-told5 .given .1, c .integer2 .ensures, toZ-ofZ s, c .before .signed-of .ensures, c .before .before .be-at2 .ensures)
 
 returns-9 : tie.Need-returns-9
-unfolding byKind
+unfolding byKind fixedAt
 returns-9 c = rw (there (c .before .before .before), c .before .enum-told6 .given .1, c .wide-at .ensures)
 
 returns-10 : tie.Need-returns-10
-unfolding byKind foundOf
+unfolding byKind fixedAt foundOf
 returns-10 c = rw (there (c .before .before .before .before), c .before .before .enum-told7 .given .1, c .short-real-of .ensures, c .before .be-at3 .ensures)
 
 returns-11 : tie.Need-returns-11
-unfolding byKind foundOf
+unfolding byKind fixedAt foundOf
 returns-11 c = rw (there (c .before .before .before .before), c .before .before .enum-told8 .given .1, c .real-of .ensures, c .before .be-at4 .ensures)
 
 returns-12 : tie.Need-returns-12
-unfolding byKind foundOf
+unfolding byKind fixedAt foundOf
 returns-12 c = rw (there (c .before .before .before), c .before .enum-told9 .given .1, c .be-at5 .ensures)
 
 returns-13 : tie.Need-returns-13
-unfolding byKind
+unfolding byKind fixedAt
 returns-13 c = rw (there (c .before .before .before .before), c .before .before .nibble .given .1, c .data-at .ensures)
 
 returns-14 : tie.Need-returns-14
-unfolding byKind
+unfolding byKind fixedAt
 returns-14 c = rw (there (c .before .before .before .before), c .before .before .nibble2 .given .1, c .utf8-at .ensures)
 
 returns-15 : tie.Need-returns-15
-unfolding byKind
+unfolding byKind fixedAt
 returns-15 c = rw (there (c .before .before .before .before), c .before .before .nibble3 .given .1, c .utf16-at .ensures)
 
 returns-16 : tie.Need-returns-16
-unfolding byKind foundOf
+unfolding byKind fixedAt foundOf
 returns-16 c = rw (there (c .before .before .before .before), c .before .before .width2 .given .1, c .be-at6 .ensures)
 
 returns-17 : tie.Need-returns-17
-unfolding byKind
+unfolding byKind fixedAt
 returns-17 c = rw (there (c .before .before .before .before), c .before .before .nibble4 .given .1, c .array-at .ensures)
 
 returns-18 : tie.Need-returns-18
-unfolding byKind
+unfolding byKind fixedAt
 returns-18 c = rw (there (c .before .before .before .before), c .before .before .nibble5 .given .1, c .dictionary-at .ensures)
 
 returns-19 : tie.Need-returns-19
-unfolding byKind foundOf numberOf valuesOf
+unfolding byKind fixedAt foundOf
 returns-19 c = rw (there (c .before .before .before), c .before .marker .given .1)
 
 pub object-at-spec : {M : Type 1} → statement M

@@ -4,8 +4,8 @@ use Prim.Native.Nat.{_+_}
 use native.Mathlib.Omega.{arith}
 use borrow.Author.Needs.{needs}
 use Rattle.number.specs.Be.{be}
-use Rattle.object.specs.Content.{part}
-use Rattle.object.specs.Found.{numberOf, valuesOf, foundOf}
+use Rattle.number.specs.Part.{part}
+use Rattle.object.specs.Found.{foundOf}
 use Rattle.object.proofs.Wide.{wide-high, wide-low}
 use Rattle.object.proofs.read.wide_at.Statement.{statement}
 use Rattle.object.proofs.read.wide_at.Tie as tie
@@ -17,7 +17,7 @@ be-at-requires : tie.Need-be-at-requires
 be-at-requires c κs = search needs
 
 returns : tie.Need-returns
-unfolding foundOf numberOf valuesOf
+unfolding foundOf
 returns c =
     let a = c .before .before .before .args in
     sym (wide-high (a .file .now) (a .offset + 1) (omega arith) (λ z. c .if1 .taken (c .before .be-at .ensures ∙ z)))

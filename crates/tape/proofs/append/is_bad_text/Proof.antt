@@ -2,6 +2,7 @@
 use mathlib.Core.Bool.{not}
 use mathlib.Core.Path.{ap}
 use borrow.Author.Needs.{needs}
+use Rattle.event.specs.Date.{isDate}
 use Rattle.event.specs.Meaning.{meaningOf}
 use Rattle.tape.specs.Code.{allowed}
 use Rattle.tape.proofs.append.is_bad_text.Statement.{statement}
@@ -64,7 +65,7 @@ unfolding meaningOf allowed
 returns-5 c = rw (c .enum-told5 .given .1)
 
 returns-6 : tie.Need-returns-6
-unfolding meaningOf allowed
+unfolding meaningOf allowed isDate
 returns-6 c = rw (c .enum-told6 .given .1)
 
 returns-7 : tie.Need-returns-7

@@ -66,11 +66,7 @@ write-number-requires : tie.Need-write-number-requires
 write-number-requires c κs = simp length-set (omega (arith, room (c .before)))
 
 write-bytes-requires : tie.Need-write-bytes-requires
-write-bytes-requires c κs =
-    let r = room (c .before .before .before .before .before) in
-    let w = c .before .before .before .write-number .ensures in
-    let l : length (c .before .before .before .write-number .last .0) ≡ length (c .before .before .before .before .before .before .before .before .before .before .before .before .args .tape .now) = ap length (w .1) ∙ simp (length-sets, length-set) in
-    omega (arith, w .0)
+write-bytes-requires c κs = search needs
 
 add-t13 : tie.Need-add-t13
 add-t13 c =

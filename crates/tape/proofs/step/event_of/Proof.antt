@@ -26,15 +26,11 @@ returns-4 c = rw (c .match .keys4)
 
 returns-5 : tie.Need-returns-5
 unfolding eventOf
-returns-5 c = rw (c .match .keys5)
-
-returns-6 : tie.Need-returns-6
-unfolding eventOf
-returns-6 c =
+returns-5 c =
     let k = c .before .args .kind in
     let r = c .match .rest in
-    simp (ne-eqb k 0x03 (r .0 .0 .0 .0 .1), ne-eqb k 0x05 (r .0 .0 .0 .1), ne-eqb k 0x06 (r .0 .0 .1), ne-eqb k 0x07 (r .0 .1), ne-eqb k 0x0B (r .1))
+    simp (ne-eqb k 0x03 (r .0 .0 .0 .1), ne-eqb k 0x05 (r .0 .0 .1), ne-eqb k 0x07 (r .0 .1), ne-eqb k 0x0B (r .1))
 
 pub event-of-spec : {M : Type 1} → statement M
 event-of-spec =
-    tie.close (tie.spec real-of-requires returns returns-2 returns-3 returns-4 returns-5 returns-6)
+    tie.close (tie.spec real-of-requires returns returns-2 returns-3 returns-4 returns-5)

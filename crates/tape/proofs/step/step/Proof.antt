@@ -3,7 +3,7 @@ use mathlib.Core.Path.{refl, ap, sym, _∙_}
 use borrow.Author.Needs.{needs}
 use borrow.Author.Tests.{ne-eqb}
 use lib.ListN.{getD}
-use Rattle.tape.specs.Item.{numbered, negative, dataIn, textIn, ofKind}
+use Rattle.tape.specs.Item.{numbered, negative, dateIn, dataIn, textIn, ofKind}
 use Rattle.tape.specs.Kinds.{eventOf}
 use Rattle.tape.specs.KindsLaws.{item-of, item-past}
 use Rattle.tape.proofs.step.step.Statement.{statement}
@@ -45,14 +45,14 @@ numbered-requires-2 c κs = search needs
 eight-at-requires-2 : tie.Need-eight-at-requires-2
 eight-at-requires-2 c κs = search needs
 
-numbered-requires-3 : tie.Need-numbered-requires-3
-numbered-requires-3 c κs = search needs
+dated-requires : tie.Need-dated-requires
+dated-requires c κs = search needs
 
 number-at-requires-3 : tie.Need-number-at-requires-3
 number-at-requires-3 c κs = search needs
 
-numbered-requires-4 : tie.Need-numbered-requires-4
-numbered-requires-4 c κs = search needs
+numbered-requires-3 : tie.Need-numbered-requires-3
+numbered-requires-3 c κs = search needs
 
 number-at-requires-4 : tie.Need-number-at-requires-4
 number-at-requires-4 c κs = search needs
@@ -72,8 +72,8 @@ no-bytes-requires-3 c κs = search needs
 number-at-requires-6 : tie.Need-number-at-requires-6
 number-at-requires-6 c κs = search needs
 
-numbered-requires-5 : tie.Need-numbered-requires-5
-numbered-requires-5 c κs = search needs
+numbered-requires-4 : tie.Need-numbered-requires-4
+numbered-requires-4 c κs = search needs
 
 no-bytes-requires-4 : tie.Need-no-bytes-requires-4
 no-bytes-requires-4 c κs = search needs
@@ -81,8 +81,8 @@ no-bytes-requires-4 c κs = search needs
 number-at-requires-7 : tie.Need-number-at-requires-7
 number-at-requires-7 c κs = search needs
 
-numbered-requires-6 : tie.Need-numbered-requires-6
-numbered-requires-6 c κs = search needs
+numbered-requires-5 : tie.Need-numbered-requires-5
+numbered-requires-5 c κs = search needs
 
 no-bytes-requires-5 : tie.Need-no-bytes-requires-5
 no-bytes-requires-5 c κs = search needs
@@ -108,12 +108,12 @@ unfolding ofKind eventOf
 returns-6 c = c .numbered2 .ensures ∙ ap (numbered (eventOf 0x05)) (c .before .eight-at .ensures) ∙ sym (item-of _ _ _ (c .before .before .before .before .if1 .left) (c .before .before .match .keys5))
 
 returns-7 : tie.Need-returns-7
-unfolding ofKind eventOf
-returns-7 c = c .numbered3 .ensures ∙ ap (numbered (eventOf 0x06)) (c .before .eight-at2 .ensures) ∙ sym (item-of _ _ _ (c .before .before .before .before .if1 .left) (c .before .before .match .keys6))
+unfolding ofKind
+returns-7 c = c .dated .ensures ∙ ap dateIn (c .before .eight-at2 .ensures) ∙ sym (item-of _ _ _ (c .before .before .before .before .if1 .left) (c .before .before .match .keys6))
 
 returns-8 : tie.Need-returns-8
 unfolding ofKind eventOf
-returns-8 c = c .numbered4 .ensures ∙ ap (numbered (eventOf 0x07)) (c .before .number-at3 .ensures) ∙ sym (item-of _ _ _ (c .before .before .before .before .if1 .left) (c .before .before .match .keys7))
+returns-8 c = c .numbered3 .ensures ∙ ap (numbered (eventOf 0x07)) (c .before .number-at3 .ensures) ∙ sym (item-of _ _ _ (c .before .before .before .before .if1 .left) (c .before .before .match .keys7))
 
 returns-9 : tie.Need-returns-9
 unfolding ofKind
@@ -133,7 +133,7 @@ returns-11 c = c .no-bytes3 .ensures ∙ sym (item-of _ _ _ (c .before .before .
 
 returns-12 : tie.Need-returns-12
 unfolding ofKind eventOf
-returns-12 c = c .numbered5 .ensures ∙ ap (numbered (eventOf 0x0B)) (c .before .number-at6 .ensures) ∙ sym (item-of _ _ _ (c .before .before .before .before .if1 .left) (c .before .before .match .keys11))
+returns-12 c = c .numbered4 .ensures ∙ ap (numbered (eventOf 0x0B)) (c .before .number-at6 .ensures) ∙ sym (item-of _ _ _ (c .before .before .before .before .if1 .left) (c .before .before .match .keys11))
 
 returns-13 : tie.Need-returns-13
 unfolding ofKind
@@ -141,7 +141,7 @@ returns-13 c = c .no-bytes4 .ensures ∙ sym (item-of _ _ _ (c .before .before .
 
 returns-14 : tie.Need-returns-14
 unfolding ofKind eventOf
-returns-14 c = c .numbered6 .ensures ∙ ap (numbered (eventOf 0x0D)) (c .before .number-at7 .ensures) ∙ sym (item-of _ _ _ (c .before .before .before .before .if1 .left) (c .before .before .match .keys13))
+returns-14 c = c .numbered5 .ensures ∙ ap (numbered (eventOf 0x0D)) (c .before .number-at7 .ensures) ∙ sym (item-of _ _ _ (c .before .before .before .before .if1 .left) (c .before .before .match .keys13))
 
 returns-15 : tie.Need-returns-15
 unfolding ofKind
@@ -185,19 +185,19 @@ step-spec =
     eight-at-requires
     numbered-requires-2
     eight-at-requires-2
-    numbered-requires-3
+    dated-requires
     number-at-requires-3
-    numbered-requires-4
+    numbered-requires-3
     number-at-requires-4
     data-at-requires
     number-at-requires-5
     text-at-requires
     no-bytes-requires-3
     number-at-requires-6
-    numbered-requires-5
+    numbered-requires-4
     no-bytes-requires-4
     number-at-requires-7
-    numbered-requires-6
+    numbered-requires-5
     no-bytes-requires-5
     returns-2
     returns-3

@@ -8,7 +8,7 @@ use borrow.Author.Needs.{needs}
 use borrow.Author.Tests.{le-leb, lt-leb}
 use lib.ListN.{length}
 use Rattle.tape.specs.Item.{textIn}
-use Rattle.tape.specs.Value.{part}
+use Rattle.number.specs.Part.{part}
 use Rattle.unicode.specs.Unicode.{isUtf8}
 use Rattle.tape.proofs.Tests.{lacks, has}
 use Rattle.tape.proofs.step.text_at.Statement.{statement}

@@ -7,8 +7,9 @@ use borrow.Author.Tests.{le-leb, lt-leb}
 use lib.ListN.{length}
 use Rattle.number.specs.Be.{be}
 use Rattle.number.specs.declared.be.Number.the-variants.{Of as NumberOf}
-use Rattle.tape.specs.PartLaws.{number-part}
-use Rattle.tape.specs.Value.{part, eightAt}
+use Rattle.number.specs.PartLaws.{number-part}
+use Rattle.number.specs.Part.{part}
+use Rattle.tape.specs.Value.{eightAt}
 use Rattle.tape.proofs.value.eight_at.Statement.{statement}
 use Rattle.tape.proofs.value.eight_at.Tie as tie
 
@@ -53,7 +54,7 @@ is-number : (c : tie.After-read-be) →
     c .read-be .result ≡ NumberOf (be (part (a .tape .now) (a .at) 8))
 is-number c =
     let a = c .before .before .before .before .before .args in
-    c .read-be .ensures ∙ number-part (a .tape .now) (a .at) (omega arith)
+    c .read-be .ensures ∙ number-part (a .tape .now) (a .at) 8 (omega arith) (omega arith) (omega arith)
 
 returns-3 : tie.Need-returns-3
 returns-3 c =

@@ -4,7 +4,7 @@ use Prim.Native.Nat.{ℕ, _+_, _-_, _*_, _^_, _<_}
 use native.Mathlib.Omega.{arith}
 use lib.ListN.{length, getD, drop}
 use Rattle.number.specs.BeLaws.{bytes-of}
-use Rattle.tape.specs.PartLaws.{bytes-drop}
+use Rattle.number.specs.PartLaws.{bytes-drop}
 use Rattle.tape.specs.Value.{numberFrom, numberAt}
 use Rattle.tape.specs.ValueLoop.{Units, above}
 use Rattle.tape.specs.ValueLoopLaws.{no-groups, unit-small, more-lt, more-groups, above-nothing, turn-last, turn-more, turn-tenth, turn-none}

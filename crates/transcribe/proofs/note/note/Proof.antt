@@ -6,7 +6,7 @@ use Rattle.number.specs.BeLaws.{bytes-of}
 use Rattle.layout.specs.Said.{numberOf, valuesOf}
 use Rattle.transcribe.specs.Note.{fromTape}
 use Rattle.transcribe.specs.Said.{noteSaid, failSaid}
-use Rattle.transcribe.proofs.Noting.{never-denied, is-plain, plain-noted, file-end, file-noted, utf16-end, never-bad, long-noted, text-fits, utf16-noted}
+use Rattle.transcribe.proofs.Noting.{never-denied, is-bare, plain-noted, file-end, file-noted, utf16-end, never-bad, long-noted, text-fits, utf16-noted}
 use borrow.Author.Needs.{needs}
 use Rattle.transcribe.proofs.note.note.Statement.{statement}
 use Rattle.transcribe.proofs.note.note.Tie as tie
@@ -15,7 +15,7 @@ enum-told : tie.Need-enum-told
 enum-told c = search needs
 
 note-plain-requires : tie.Need-note-plain-requires
-note-plain-requires c κs = is-plain (c .before .before .before .before .before .before .pre) (c .before .enum-told .given .1)
+note-plain-requires c κs = is-bare (c .before .before .before .before .before .before .pre) (c .before .enum-told .given .1)
 
 enum-known-bytes : tie.Need-enum-known-bytes
 enum-known-bytes c = search needs

@@ -2,7 +2,7 @@
 use mathlib.Core.List.{[]}
 use mathlib.Core.Path.{refl, ap, _∙_}
 use Rattle.event.specs.Meaning.{meaningOf}
-use Rattle.transcribe.specs.HandedLaws.{plain-means}
+use Rattle.transcribe.specs.HandedLaws.{bare-allowed}
 use Rattle.transcribe.specs.Note.{fromTape}
 use borrow.Author.Needs.{needs}
 use Rattle.tape.specs.AppendLaws.{put-event}
@@ -25,7 +25,7 @@ returns : tie.Need-returns
 returns c =
     let a = c .before .before .before .before .before .before .before .args in
     let p = c .before .before .before .append-unchecked in
-    let t = put-event (a .tape .now) (a .held) (meaningOf (a .event) []) (plain-means (a .event) [] (c .before .before .before .before .before .before .before .pre) .1) (refl, refl) in (
+    let t = put-event (a .tape .now) (a .held) (meaningOf (a .event) []) (bare-allowed (a .event) (c .before .before .before .before .before .before .before .pre)) (refl, refl) in (
       c .noted .ensures ∙ ap fromTape (p .ensures .0 ∙ t .0),
       p .ensures .1 ∙ t .1,
     )

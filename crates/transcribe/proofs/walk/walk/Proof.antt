@@ -10,7 +10,6 @@ use Rattle.layout.specs.Looked.{scalar, container}
 use Rattle.layout.specs.Said.{shapeSaid, numberOf, valuesOf, lookSaid, lookBytes}
 use Rattle.layout.specs.Frame.{nextIn, noFrame}
 use Rattle.layout.specs.declared.layout.Due.the-variants.{Close, Member}
-use Rattle.layout.specs.Bytes.{hasBytes}
 use Rattle.layout.specs.Layout.{lookOf}
 use Rattle.reader.specs.Machine.{arrive}
 use Rattle.reader.specs.State.{maxOpen}
@@ -18,7 +17,7 @@ use Rattle.reader.specs.Next.{laidOut}
 use Rattle.transcribe.specs.Said.{noteSaid, endSaid}
 use Rattle.transcribe.specs.Run.{onward}
 use Rattle.transcribe.proofs.Walking.{Stands, leftOf, due, looked, short-number, short-length, Turn, call-root, is-wrong, close-fails, close-finishes, close-goes, is-refused, notable, counts, scalar-fails, scalar-finishes, scalar-goes, scalar-stands, is-open-now, is-deep, enter-fails, enter-goes, enter-stands, still-long}
-use Rattle.transcribe.specs.HandedLaws.{start-plain}
+use Rattle.transcribe.specs.HandedLaws.{start-bare}
 use Rattle.transcribe.proofs.walk.walk.Statement.{statement}
 use Rattle.transcribe.proofs.walk.walk.Tie as tie
 
@@ -114,8 +113,7 @@ enum-told-2 : tie.Need-enum-told-2 Inv-loop μ-loop
 enum-told-2 c = search needs
 
 note-plain-requires : tie.Need-note-plain-requires Inv-loop μ-loop
-unfolding hasBytes
-note-plain-requires c κs = refl
+note-plain-requires c κs = tt
 
 enum-known-failure : tie.Need-enum-known-failure Inv-loop μ-loop
 enum-known-failure c = search needs
@@ -313,7 +311,7 @@ start-of-requires : tie.Need-start-of-requires Inv-loop μ-loop
 start-of-requires c κs = search needs
 
 note-plain-requires-2 : tie.Need-note-plain-requires-2 Inv-loop μ-loop
-note-plain-requires-2 c κs = rw (c .start-of .ensures) (start-plain _ _)
+note-plain-requires-2 c κs = rw (c .start-of .ensures) (start-bare _ _)
 
 enum-known-failure-3 : tie.Need-enum-known-failure-3 Inv-loop μ-loop
 enum-known-failure-3 c = search needs

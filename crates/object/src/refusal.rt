@@ -1,0 +1,11 @@
+// Why there is no object, by the names of docs/FORMAT.md, table N.
+pub enum Refusal {
+    EndOfInput,
+    ObjectOffsetTooLarge,
+    NullObjectUnimplemented,
+    FillObjectUnimplemented,
+    UnknownObjectType(u8),
+    IntegerOutOfRange,
+    InvalidUtf8String,
+    InvalidUtf16String,
+}
