@@ -21,12 +21,18 @@ fn from_hex(text: &str) -> Option<Vec<u8>> {
 /// The first bytes, of which a long input has more.
 pub fn shown(bytes: &[u8]) -> String {
     let most = bytes.len().min(2000);
-    let mut out: String = bytes[..most]
-        .iter()
-        .map(|byte| format!("{byte:02x}"))
-        .collect();
+    let mut out = whole(&bytes[..most]);
     if most < bytes.len() {
         out.push_str("..");
     }
     out
+}
+
+/// All bytes.
+pub fn whole(bytes: &[u8]) -> String {
+    const DIGITS: &[u8; 16] = b"0123456789abcdef";
+    let digits = bytes.iter().flat_map(|byte| [byte >> 4, byte & 15]);
+    digits
+        .map(|digit| char::from(DIGITS[usize::from(digit)]))
+        .collect()
 }

@@ -95,7 +95,7 @@ write-file-words :
     (κs : Lfts 3) (a : Dens κs write-file-kinds.ps) (x y : resT write-file-kinds.r κs .Denot) (e f : AtExit (endedOf 3 write-file-kinds.ps write-file-kinds.r) κs)
     → write-file-reads.Post κs a x e → write-file-reads.Post κs a y f
     → drop (usedOf (now (a .0)) (length (now (a .1 .0)))) (now (e .1 .0)) ≡ drop (usedOf (now (a .0)) (length (now (a .1 .0)))) (now (f .1 .0))
-write-file-words κs a x y e f p q = p .1 .1 ∙ sym (q .1 .1)
+write-file-words κs a x y e f p q = p .1 .1 .0 ∙ sym (q .1 .1 .0)
 
 zm-write-one : One 6 zm-write-kinds.ps zm-write-kinds.r zm-write-reads.Post (record { value : ℕ; expected : ℕ; found : ℕ; out : List ℕ }) (λ κs e. record { value = now (e .1 .1 .1 .0); expected = now (e .1 .1 .1 .1 .0); found = now (e .1 .1 .1 .1 .1 .0); out = now (e .1 .1 .0) })
 zm-write-one κs a x y e f p q = (

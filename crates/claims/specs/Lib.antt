@@ -18,7 +18,6 @@ pub mod Reached
 pub mod Recursion
 pub mod Refusal
 pub mod Stack
-pub mod Table
 pub mod Weight
 pub mod WrongFile
 pub mod WrongFileLaws

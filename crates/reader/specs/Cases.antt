@@ -72,7 +72,7 @@ abbrev offsets : ℕ → ℕ → List ℕ
 offsets zero at = at ∷ []
 offsets (suc n) at = at ∷ offsets n (at + 2)
 
-abbrev nested : ℕ → List ℕ
+abbrev pub nested : ℕ → List ℕ
 nested n = magic ++ inside n 1 ++ offsets n 8 ++ trailer (n + 1) (9 + 2 * n)
 
 -- the case "depth": 64 arrays, each in the one before, are read; with 65, 15 comes at the offset of the 65th

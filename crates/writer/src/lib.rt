@@ -25,6 +25,7 @@ use grammar::check::check_tape;
 ghost use mathlib.Core.Path.{_≡_};
 ghost use Prim.Native.Nat.{_*_};
 ghost use lib.ListN.{length, drop};
+ghost use Rattle.number.specs.BeLaws.{Bytes};
 ghost use Rattle.written.specs.File.{fileOf};
 ghost use Rattle.writer.specs.Ready.{Ready, piecesIn};
 ghost use Rattle.writer.specs.Write.{writtenSaid, fittedOf, writeOf, outputBy, outputOf, usedOf};
@@ -32,11 +33,13 @@ ghost use Rattle.writer.specs.Write.{writtenSaid, fittedOf, writeOf, out
 // Lent words for each event.
 pub const COLUMNS: usize = 6;
 
-// The file of a tape's events at the start of the output.
+// The file of a tape's events at the start of the output. That the lent tape is bytes, as the machine's are, is said so that what holds of every
+// written file needs no such condition.
 pub fn write_file(tape: &[u8], work: &mut [u32], out: &mut [u8]) -> Written
     ensures { λ r. ⌜ writtenSaid r ≡ writeOf (now (tape .entry)) (length (now (work .entry))) (length (now (out .entry))) ⌝ }
     ensures { λ _. ⌜ now (out .exit) ≡ outputOf (now (tape .entry)) (length (now (work .entry))) (now (out .entry)) ⌝ }
     ensures { λ _. ⌜ drop (usedOf (now (tape .entry)) (length (now (work .entry)))) (now (work .exit)) ≡ drop (usedOf (now (tape .entry)) (length (now (work .entry)))) (now (work .entry)) ⌝ }
+    ensures { λ _. ⌜ Bytes (now (tape .entry)) ⌝ }
 {
     match check_tape(tape) {
         Checked::Refused(refusal, place) => Written::Refused(refusal, place),

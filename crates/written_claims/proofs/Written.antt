@@ -11,7 +11,6 @@ use denote.Ref.{now}
 use denote.Triple.Clauses.{AtExit}
 use lib.ListN.{length, take, drop}
 use lib.Seq.{sets, sets-eq, take-at, drop-at}
-use Rattle.number.specs.BeLaws.{Bytes}
 use Rattle.event.specs.Meaning.{Meaning}
 use Rattle.tape.specs.Events.{tapeOf}
 use Rattle.transcribe.specs.Run.{run}
@@ -45,12 +44,12 @@ file-in tape words before after k w e =
     let d : drop k after ≡ drop k before = rw s (drop-at f (drop (length f) before) k (sym (w .is))) ∙ ap (λ (n : ℕ). drop n before) (sym (w .is)) in
     record { accepted = w .accepted; front = t; behind = d; good = rw t (good (meaningsIn tape) (w .accepted)) }
 
--- the bytes of a tape are below 256, which the machine's bytes are
+-- what `write_file` answers and leaves
 pub write-file-good : (κs : Lfts 3) (a : Dens κs write-file-kinds.ps) (x : resT write-file-kinds.r κs .Denot) (e : AtExit (endedOf 3 write-file-kinds.ps write-file-kinds.r) κs)
-    → write-file-reads.Post κs a x e → Bytes (now (a .0)) → (k : ℕ) → x ≡ Length k → FileIn (now (a .0)) (now (a .1 .1 .0)) (now (e .1 .1 .0)) k
+    → write-file-reads.Post κs a x e → (k : ℕ) → x ≡ Length k → FileIn (now (a .0)) (now (a .1 .1 .0)) (now (e .1 .1 .0)) k
 unfolding writtenSaid
-write-file-good κs a x e p b k l =
-    let w = accepts (now (a .0)) (length (now (a .1 .0))) (now (a .1 .1 .0)) k b (sym (p .0) ∙ ap writtenSaid l) in
+write-file-good κs a x e p k l =
+    let w = accepts (now (a .0)) (length (now (a .1 .0))) (now (a .1 .1 .0)) k (p .1 .1 .1) (sym (p .0) ∙ ap writtenSaid l) in
     file-in (now (a .0)) (length (now (a .1 .0))) (now (a .1 .1 .0)) (now (e .1 .1 .0)) k w (p .1 .0 ∙ w .output)
 
 -- what `transcribe` answers and leaves is what the definition says

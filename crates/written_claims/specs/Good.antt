@@ -24,6 +24,7 @@ use Rattle.written_claims.specs.Claims.{LookedUp, EndsBefore}
 use Rattle.written_claims.specs.Claims as claims
 use Rattle.written_claims.specs.Filled.{filled, handedOf}
 use Rattle.written_claims.specs.ReadBack.{means-back, handed-means}
+use Rattle.written_claims.specs.ReadEnds.{tapeNeeded, budgetNeeded, Ending, ends-back}
 use Rattle.written_claims.specs.ReadWhole as back
 use Rattle.written_claims.specs.ReadWhole.{scratchNeeded, Holds}
 use Rattle.written_claims.specs.References.{namedBy, allReferences, Names, Reached, mentions}
@@ -50,6 +51,9 @@ pub record Good (file : List ℕ) (ms : List Meaning) : Type 0 where
   pub means : meaningsOf put ≡ filled ms
   pub whole-back : (budget : ℕ) (scratch tape : List ℕ) → length ms < budget → scratchNeeded ms ≤ length scratch → length (tapeOf (filled ms)) ≤ length tape
       → Holds (filled ms) tape (transcriptOf budget file scratch tape)
+  -- and how a reading ends, whatever is lent
+  pub ends-back : (budget : ℕ) (scratch tape : List ℕ)
+      → Ending budget (length scratch) (length tape) (budgetNeeded ms) (scratchNeeded ms) (tapeNeeded ms) (transcriptOf budget file scratch tape .ending)
   -- what is read is accepted and written as this file again
   pub again : Accepted (filled ms) × (fileFor (filled ms) ≡ file)
 
@@ -71,5 +75,6 @@ good ms a = record {
   answered = means-back ms a;
   means = handed-means ms a;
   whole-back = back.whole-back ms a;
+  ends-back = ends-back ms a;
   again = (accepted-again ms a, written-again ms);
 }

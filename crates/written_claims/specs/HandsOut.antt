@@ -1,16 +1,16 @@
 -- An answer of the reader hands out an event; the text request gives it, with the bytes of its data or text.
-use mathlib.Core.Bool.{cond}
+use mathlib.Core.Bool.{true, cond}
 use mathlib.Core.List.{List, [], _∷_}
 use mathlib.Core.Path.{_≡_}
-use Prim.Native.Nat.{ℕ, _≤_}
+use Prim.Native.Nat.{ℕ, _≤_, _<_}
 use lib.ListN.{length}
 use Rattle.event.specs.Meaning.{Meaning, array, dictionary, close, boolean, bytes, date, integer, real, text, uid}
 use Rattle.event.specs.declared.Event.{Event}
 use Rattle.unicode.specs.Unicode.{isAscii}
-use Rattle.layout.specs.Bytes.{Asked}
+use Rattle.layout.specs.Bytes.{Asked, hasBytes}
 use Rattle.reader.specs.Machine.{Said, recordOf, eventAt}
 use Rattle.reader.specs.Meanings.{meaningAt}
-use Rattle.reader.specs.Request.{long, askedOf, lengthSaid, scratchAfter, partSaid}
+use Rattle.reader.specs.Request.{long, refusing, askedOf, lengthSaid, scratchAfter, partSaid}
 use Rattle.transcribe.specs.TranscriptLaws.{Put}
 
 -- the bytes of data or text
@@ -45,13 +45,21 @@ pub record Gives (file scratch : List ℕ) (at : ℕ) (a : Asked) (content : Lis
   pub second : partSaid file (scratchAfter file scratch a) a ≡ content
   pub scratch-is : length (scratchAfter file scratch a) ≡ length scratch
 
--- an event with its meaning and offset; the request gives its bytes wherever the scratch has room for them, none if it isn't data or text
+-- the request where the scratch is too short: 16 at the event's offset, and the scratch is as it was
+pub record Lacks (file scratch : List ℕ) (e : Event) (at : ℕ) : Type 0 where
+  pub has : hasBytes e ≡ true
+  pub first : lengthSaid file scratch at (askedOf file (recordOf e at)) ≡ refusing 16 [] at
+  pub kept : scratchAfter file scratch (askedOf file (recordOf e at)) ≡ scratch
+
+-- an event with its meaning and offset; the request gives its bytes wherever the scratch has room for them, none if it isn't data or text, and 16
+-- wherever it has not
 pub record HandsOut (file : List ℕ) (p : Put) (x : Said) : Type 0 where
   pub e : Event
   pub is : x ≡ eventAt e (p .offset)
   pub means : meaningAt file e (p .offset) ≡ p .meaning
   pub gives : (scratch : List ℕ) → scratchFor (p .meaning) ≤ length scratch
       → Gives file scratch (p .offset) (askedOf file (recordOf e (p .offset))) (contentOf (p .meaning))
+  pub lacks : (scratch : List ℕ) → length scratch < scratchFor (p .meaning) → Lacks file scratch e (p .offset)
 
 -- answer by answer
 abbrev pub HandOut : List ℕ → List Put → List Said → Type 0

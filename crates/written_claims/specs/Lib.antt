@@ -32,10 +32,12 @@ pub mod HandsOut
 pub mod HandsOutLaws
 pub mod Whole
 pub mod ReadWhole
+pub mod ReadEnds
 pub mod Same
 pub mod Examples
 pub mod Writes
 pub mod Good
+pub mod Table
 pub mod Verdict
 pub mod VerdictLaws
 pub mod SameAnswers

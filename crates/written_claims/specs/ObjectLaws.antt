@@ -1,5 +1,6 @@
 -- An object that stands in a file is shown by it.
 use mathlib.Core.List.{List}
+use mathlib.Core.Logic.{inl, inr}
 use mathlib.Core.Path.{_≡_, refl, _∙_}
 use Prim.Native.Nat.{ℕ, _<_}
 use native.Mathlib.Omega.{arith}
@@ -49,8 +50,8 @@ module _ (file : List ℕ) (l : Layout) (n at : ℕ) (numbered : n < l .count) (
           let look : lookOf file l n ≡ scalar e at = look-there file l n at numbered entry ∙ rw (is (l .refs)) in
           let right : Bytes-right file e (eventAsked file e at) = rw look at (look-right file l n) in
           record { event = e; look = look; means = says _; asks = rw given (bare-plain e (rw given at right)) }
-      go (found.bytes start k) is says = record { event = Data; look = look-there file l n at numbered entry ∙ rw (is (l .refs)); means = rw (is One) (says .0); asks = rw (is One) (refl, says .1) }
-      go (found.utf8 start k) is says = record { event = String; look = look-there file l n at numbered entry ∙ rw (is (l .refs)); means = rw (is One) (says .0); asks = rw (is One) (refl, says .1) }
+      go (found.bytes start k) is says = record { event = Data; look = look-there file l n at numbered entry ∙ rw (is (l .refs)); means = rw (is One) (says .0); asks = rw (is One) (says .1, inl refl) }
+      go (found.utf8 start k) is says = record { event = String; look = look-there file l n at numbered entry ∙ rw (is (l .refs)); means = rw (is One) (says .0); asks = rw (is One) (says .1, inr (refl, says .2)) }
       go (found.utf16 start k) is says = record { event = String; look = look-there file l n at numbered entry ∙ rw (is (l .refs)); means = rw (is One) (says .0); asks = rw (is One) (refl, says .1) }
       go (found.array k) is says = absurd says
       go (found.dictionary k) is says = absurd says

@@ -31,7 +31,7 @@ scratchNeeded [] = 0
 scratchNeeded (m ∷ ms) = max (scratchFor m) (scratchNeeded ms)
 
 -- filling lengths in changes no text
-needed-same : (ms : List Meaning) → scratchNeeded (filled ms) ≡ scratchNeeded ms
+pub needed-same : (ms : List Meaning) → scratchNeeded (filled ms) ≡ scratchNeeded ms
 unfolding scratchNeeded scratchFor filled
 needed-same [] = refl
 needed-same (array v ∷ ms) = rw (needed-same ms)
@@ -53,7 +53,7 @@ within room (p ∷ ps) h t =
     let r = le-max-right (scratchFor (p .meaning)) (scratchNeeded (meaningsOf ps)) in
     (omega (arith, h, l), t .0 .1, within room ps (omega (arith, h, r)) (t .1))
 
-same-length : (file : List ℕ) (ps : List Put) (xs : List Said) → HandOut file ps xs → length xs ≡ length ps
+pub same-length : (file : List ℕ) (ps : List Put) (xs : List Said) → HandOut file ps xs → length xs ≡ length ps
 same-length file [] [] h = refl
 same-length file [] (x ∷ xs) h = absurd h
 same-length file (p ∷ ps) [] h = absurd h

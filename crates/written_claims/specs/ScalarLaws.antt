@@ -43,7 +43,7 @@ Says file found.outside m = ⊥
 Says file (found.refused number values) m = ⊥
 Says file (found.scalar e) m = (s : List ℕ) → meaningOf e s ≡ m
 Says file (found.bytes start n) m = (bytes (part file start n) ≡ m) × (length (part file start n) ≡ n)
-Says file (found.utf8 start n) m = (text (part file start n) ≡ m) × (length (part file start n) ≡ n)
+Says file (found.utf8 start n) m = (text (part file start n) ≡ m) × (length (part file start n) ≡ n) × (isAscii (part file start n) ≡ true)
 Says file (found.utf16 start n) m = (text (toUtf8 (part file start n)) ≡ m) × (isAscii (toUtf8 (part file start n)) ≡ false)
 Says file (found.array n) m = ⊥
 Says file (found.dictionary n) m = ⊥
@@ -131,14 +131,14 @@ module _ (file : List ℕ) (at : ℕ) where
       let p : part file (at + length (headBytes 0x40 n)) n ≡ s = stands-part file _ s (d .body) in
       record { there = found.bytes (at + length (headBytes 0x40 n)) n; is = λ refs. d .decides refs ∙ rw (k, d .content); says = (ap bytes p, ap length p) }
 
-  ascii-reads : (s : List ℕ) → isUtf8 s ≡ true → length s < 2 ^ 64 → Whole file at (headBytes 0x50 (length s) ++ s) → Reads file at (text s)
+  ascii-reads : (s : List ℕ) → isUtf8 s ≡ true → isAscii s ≡ true → length s < 2 ^ 64 → Whole file at (headBytes 0x50 (length s) ++ s) → Reads file at (text s)
   unfolding byKind utf8In
-  ascii-reads s g h wh =
+  ascii-reads s g a h wh =
       let n = length s in
       let d = headed file at 0x50 n 1 s h (omega arith) wh in
       let k : kindOf (0x50 + nibbleOf n) ≡ kind.Utf8 (nibbleOf n) = kind-nibble 0x50 kind.Utf8 kind-utf8 n in
       let p : part file (at + length (headBytes 0x50 n)) n ≡ s = stands-part file _ s (d .body) in
-      record { there = found.utf8 (at + length (headBytes 0x50 n)) n; is = λ refs. d .decides refs ∙ rw (k, d .content, p, g); says = (ap text p, ap length p) }
+      record { there = found.utf8 (at + length (headBytes 0x50 n)) n; is = λ refs. d .decides refs ∙ rw (k, d .content, p, g); says = (ap text p, ap length p, rw p a) }
 
   utf16-text-reads : (s : List ℕ) → isUtf8 s ≡ true → isAscii s ≡ false → (n : ℕ) → length (toUtf16 s) ≡ n * 2 → n < 2 ^ 64
       → Whole file at (headBytes 0x60 n ++ toUtf16 s) → Reads file at (text s)
@@ -154,7 +154,7 @@ module _ (file : List ℕ) (at : ℕ) where
   text-reads s g h wh = go (isAscii s) refl
     where
       go : (b : Bool) → isAscii s ≡ b → Reads file at (text s)
-      go true e = ascii-reads s g h (rw e at wh)
+      go true e = ascii-reads s g e h (rw e at wh)
       go false e =
           let n = length (utf16 (scalars8 s)) in
           let c = counted s g in

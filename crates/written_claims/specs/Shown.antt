@@ -1,6 +1,7 @@
 -- What a source of answers is to say of an object.
 use mathlib.Core.Bool.{true, false}
 use mathlib.Core.List.{List, _++_}
+use mathlib.Core.Logic.{_⊎_}
 use mathlib.Core.Path.{_≡_}
 use Prim.Native.Nat.{ℕ, _+_, _*_, _^_, _<_}
 use lib.ListN.{length, getD}
@@ -8,7 +9,7 @@ use Rattle.unicode.specs.Bounds.{Below}
 use Rattle.unicode.specs.Unicode.{isAscii, toUtf8}
 use Rattle.event.specs.Meaning.{Meaning}
 use Rattle.event.specs.declared.Event.{Event}
-use Rattle.event.specs.declared.Event.the-variants.{String}
+use Rattle.event.specs.declared.Event.the-variants.{Data, String}
 use Rattle.number.specs.Part.{part}
 use Rattle.layout.specs.Looked.{Source, scalar, container, array, dictionary}
 use Rattle.layout.specs.Bytes.{Asked, inFile, inUtf16, noBytes, denied, eventAsked, hasBytes}
@@ -31,9 +32,10 @@ pub record At (f : Frame) (n length position : ℕ) : Type 0 where
   pub long : f .length ≡ length
   pub stands : f .position ≡ position
 
--- where the bytes of an event stand: in the file, whole; as UTF-16, if it is a text that isn't ASCII; nowhere, if it has none
+-- where the bytes of an event stand: in the file, whole, if it is data or a text that is ASCII; as UTF-16, if it is any other text; nowhere, if it has
+-- none
 abbrev pub Asks : List ℕ → Event → Asked → Type 0
-Asks file e (inFile start n) = (hasBytes e ≡ true) × (length (part file start n) ≡ n)
+Asks file e (inFile start n) = (length (part file start n) ≡ n) × ((e ≡ Data) ⊎ ((e ≡ String) × (isAscii (part file start n) ≡ true)))
 Asks file e (inUtf16 start n) = (e ≡ String) × (isAscii (toUtf8 (part file start n)) ≡ false)
 Asks file e noBytes = hasBytes e ≡ false
 Asks file e (denied number values) = ⊥

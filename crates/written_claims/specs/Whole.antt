@@ -36,7 +36,7 @@ AllWithin room (p ∷ ps) = (scratchFor (p .meaning) ≤ room) × (allowed (p .m
 
 module _ (file : List ℕ) where
   -- an event that is handed out is appended by its meaning
-  noted : (p : Put) (x : Said) (h : HandsOut file p x) (scratch tape : List ℕ) (held : ℕ) → scratchFor (p .meaning) ≤ length scratch
+  pub noted : (p : Put) (x : Said) (h : HandsOut file p x) (scratch tape : List ℕ) (held : ℕ) → scratchFor (p .meaning) ≤ length scratch
       → (s : List ℕ) × (length s ≡ length scratch) × (noteOf file scratch tape held (recordOf (h .e) (p .offset)) ≡ putNote s tape held (p .meaning))
   unfolding noteOf textNote meaningAt
   noted p x h scratch tape held room = go (hasBytes (h .e)) refl
@@ -52,12 +52,12 @@ module _ (file : List ℕ) where
           let after : List ℕ = scratchAfter file scratch (askedOf file (recordOf (h .e) (p .offset))) in
           (after, k .scratch-is, rw (f, k .first, textNote, k .second) (ap (putNote after tape held) (ap (meaningOf (h .e)) c ∙ h .means)))
 
-  put-note : (s tape : List ℕ) (held : ℕ) (m : Meaning) → allowed m ≡ true → held + length (bytesFor m) ≤ length tape
+  pub put-note : (s tape : List ℕ) (held : ℕ) (m : Meaning) → allowed m ≡ true → held + length (bytesFor m) ≤ length tape
       → putNote s tape held m ≡ noting (kept (held + length (bytesFor m))) (sets tape held (bytesFor m)) s
   unfolding putNote fromTape appendOf appendTo putOf putTo fits
   put-note s tape held m t room = rw (t, le-leb (held + length (bytesFor m)) (length tape) room)
 
-  run-step : (n : ℕ) (scratch tape : List ℕ) (held : ℕ) (r : Reader) (e : Event) (at k : ℕ) (t s : List ℕ) → nextOf file r .answer ≡ eventAt e at
+  pub run-step : (n : ℕ) (scratch tape : List ℕ) (held : ℕ) (r : Reader) (e : Event) (at k : ℕ) (t s : List ℕ) → nextOf file r .answer ≡ eventAt e at
       → noteOf file scratch tape held (recordOf e at) ≡ noting (kept k) t s → runOf (suc n) file scratch tape held r ≡ runOf n file s t k (nextOf file r .state)
   unfolding runOf bySaid byNote byNoted
   run-step n scratch tape held r e at k t s a q = rw (a, bySaid, q)

@@ -5,7 +5,7 @@ use native.Mathlib.Omega.{arith}
 use borrow.Author.Needs.{needs}
 use lib.ListN.{length}
 use lib.Seq.{drop-at, length-take-le}
-use Rattle.number.specs.BeLaws.{bytes-of}
+use Rattle.number.specs.BeLaws.{Bytes, bytes-of}
 use Rattle.grammar.specs.Check.{checkOf}
 use Rattle.grammar.specs.Said.{whole, checkedSaid}
 use Rattle.writer.specs.CheckLaws.{ready-of}
@@ -22,6 +22,10 @@ enum-known-refusal c = search needs
 enum-known-n : tie.Need-enum-known-n
 enum-known-n c = search needs
 
+-- what is lent as a tape is bytes
+tape-bytes : (x : tie.After-shared-slice-known) → Bytes (x .before .args .tape .now)
+tape-bytes x = bytes-of (x .before .args .tape .now) (λ (i : ℕ). omega (arith, x .shared-slice-known .given i))
+
 -- how many events there are, and that the check says so
 abbrev eventsIn : tie.After-n → ℕ
 eventsIn x = x .n .given .0 .0
@@ -34,7 +38,7 @@ returns : tie.Need-returns
 returns c =
     let a = c .before .before .before .before .before .before .before .before .args in
     let w = at-words (a .tape .now) (length (a .work .now)) (a .out .now) (eventsIn (c .before .before)) (checked (c .before .before)) (omega (arith, c .if1 .taken)) in
-    (w .0, (w .1, refl))
+    (w .0, (w .1, (refl, tape-bytes (c .before .before .before .before .before .before .before))))
 
 mul-words : tie.Need-mul-words
 mul-words c = search needs
@@ -52,7 +56,7 @@ slice-aggregate-write-events c = sym (length-take-le _ _ (lent (c .before)))
 write-events-requires : tie.Need-write-events-requires
 write-events-requires c κs =
     let t = c .before .before .before .before .before .before .before .before .before .before .args .tape .now in
-    let b = bytes-of t (λ (i : ℕ). omega (arith, c .before .before .before .before .before .before .before .before .before .shared-slice-known .given i)) in
+    let b = tape-bytes (c .before .before .before .before .before .before .before .before .before) in
     (ready-of t (eventsIn (c .before .before .before .before)) b (checked (c .before .before .before .before)), length-take-le _ _ (lent (c .before .before)))
 
 returns-2 : tie.Need-returns-2
@@ -61,7 +65,7 @@ returns-2 c =
     let a = c .before .before .before .before .before .before .before .args in
     let r = c .before .refusal .given in
     let w = at-refusal (a .tape .now) (length (a .work .now)) (a .out .now) (r .0 .0) (r .0 .1 .0) (sym (c .before .before .before .check-tape .ensures) ∙ ap checkedSaid (r .1)) in
-    (w .0, (w .1, refl))
+    (w .0, (w .1, (refl, tape-bytes (c .before .before .before .before .before .before))))
 
 same-length : tie.Need-same-length
 same-length c = search needs
@@ -76,7 +80,7 @@ returns-3 c =
     let w = c .before .before .before .before .write-events in
     let f = at-file (a .tape .now) (length (a .work .now)) (a .out .now) (eventsIn (d .before .before)) (checked (d .before .before)) (lent d) in
     let l : length (w .last .1 .0) ≡ eventsIn (d .before .before) * 6 = c .before .before .before .work .given .0 ∙ length-take-le (eventsIn (d .before .before) * 6) (a .work .now) (lent d) in
-    (w .ensures .0 ∙ sym (f .0), (w .ensures .1 ∙ sym (f .1), rw (f .2) (drop-at (w .last .1 .0) _ _ l)))
+    (w .ensures .0 ∙ sym (f .0), (w .ensures .1 ∙ sym (f .1), (rw (f .2) (drop-at (w .last .1 .0) _ _ l), tape-bytes (d .before .before .before .before .before .before .before))))
 
 pub write-file-spec : {M : Type 1} → statement M
 write-file-spec =
