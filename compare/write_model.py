@@ -5,7 +5,7 @@ the builders of tapes."""
 
 MAX_LENGTH = 2_147_483_648
 MAX_OPEN = 64
-WORDS = 6  # for each event
+WORDS = 8  # for each event
 SIZES = (1, 2, 4, 8)
 SCALARS = {3: "Integer", 4: "Integer", 5: "Real", 6: "Date", 7: "Uid", 8: "Data", 9: "String"}
 STARTS = {0x0A: "StartArray", 0x0B: "StartArray", 0x0C: "StartDictionary", 0x0D: "StartDictionary"}

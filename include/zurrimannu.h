@@ -150,13 +150,13 @@ enum {
 };
 
 /* Words that the writer works in, for each event of the tape, ends too. */
-#define ZM_WORDS_FOR_EVENT 6
+#define ZM_WORDS_FOR_EVENT 8
 
 /*
  * Writes the file of a tape, whose events are one whole value, to the start of `out`. Answers 0, and `*value` is the file's length; or
  * the number of a refusal, and `*value` is its place, 0 where it has none. `*expected` and `*found` are the kinds that 21 names, else 0.
  *
- * After a refusal `out` is as it was; what lies behind the file always is. The first six words for each event change with a file, with
+ * After a refusal `out` is as it was; what lies behind the file always is. The first eight words for each event change with a file, with
  * 25 and with 26, and hold nothing of use then. All other words, and with any other refusal all of them, are as they were.
  */
 uint32_t zm_write(const uint8_t *tape, size_t tape_length, uint32_t *work, size_t work_length, uint8_t *out, size_t out_length,

@@ -27,8 +27,8 @@ use write_families::{every_kind, every_number, Stock, FAMILIES};
 
 const USAGE: &str = "usage: writes RECORDED REAL [--seed N] [--count N]";
 
-/// Words for each event: document 01, 24.
-const COLUMNS: usize = 6;
+/// Words for each event: docs/FORMAT.md, W17.
+const COLUMNS: usize = 8;
 /// A tape of which every cut and every change is tried.
 const WHOLE_MOST: usize = 150;
 /// A tape of a real file from which families draw.
@@ -158,19 +158,19 @@ fn large(judge: &mut Judge) {
     let mut memory = vec![0; MAX_LENGTH + 1];
     let mut out = vec![0; MAX_LENGTH];
     for (content, words, room, number) in [
-        (longest, 6, MAX_LENGTH - 1, 25),
-        (longest, 5, MAX_LENGTH, 24),
-        (longest + 1, 6, MAX_LENGTH, 26),
-        (longest + 1, 6, 0, 26),
-        (longest + 1, 5, 0, 24),
-        (MAX_LENGTH - 6, 6, MAX_LENGTH, 26),
-        (MAX_LENGTH - 5, 6, MAX_LENGTH, 1),
+        (longest, COLUMNS, MAX_LENGTH - 1, 25),
+        (longest, COLUMNS - 1, MAX_LENGTH, 24),
+        (longest + 1, COLUMNS, MAX_LENGTH, 26),
+        (longest + 1, COLUMNS, 0, 26),
+        (longest + 1, COLUMNS - 1, 0, 24),
+        (MAX_LENGTH - 6, COLUMNS, MAX_LENGTH, 26),
+        (MAX_LENGTH - 5, COLUMNS, MAX_LENGTH, 1),
     ] {
         let mut head = Vec::new();
         tapes::put(&mut head, tapes::DATA, content as u64);
         memory[..head.len()].copy_from_slice(&head);
         let tape = &memory[..head.len() + content];
-        let got = ours::write(tape, &mut [WORD_FILLING; 6][..words], &mut out[..room]);
+        let got = ours::write(tape, &mut [WORD_FILLING; COLUMNS][..words], &mut out[..room]);
         let kept = |part: &[u8]| part.iter().all(|byte| *byte == 0);
         let ends = kept(&out[..4096]) && kept(&out[MAX_LENGTH - 4096..]);
         let want = their_writer::refused(number, 0);

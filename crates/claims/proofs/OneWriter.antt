@@ -86,7 +86,7 @@ put-head-one κs a x y e f p q = (p .0 ∙ sym (q .0), p .1 ∙ sym (q .1))
 put-scalar-one : One 2 put-scalar-kinds.ps put-scalar-kinds.r put-scalar-reads.Post (List ℕ) (λ κs e. now (e .1 .1 .1 .0))
 put-scalar-one κs a x y e f p q = (p .0 ∙ sym (q .0), p .1 ∙ sym (q .1))
 
--- the words stand below: their first six for each event are left open (docs/EXCEPTIONS.md)
+-- the words stand below: their first eight for each event are left open (docs/EXCEPTIONS.md)
 write-file-one : One 3 write-file-kinds.ps write-file-kinds.r write-file-reads.Post (List ℕ) (λ κs e. now (e .1 .1 .0))
 write-file-one κs a x y e f p q = (writtenSaid-one x y (p .0 ∙ sym (q .0)), p .1 .0 ∙ sym (q .1 .0))
 

@@ -54,10 +54,10 @@ fn whole_lines(s: &[u8]) -> usize {
 }
 
 // A tape in hex, and where a space follows: how many words and bytes are lent, and from which word on words are looked at afterwards. The
-// memory is enough for any tape of 16,384 bytes: six words for a byte of it, and eight bytes of the file.
+// memory is enough for any tape of 16,384 bytes: eight words for a byte of it, and eight bytes of the file.
 fn one(line: &[u8]) {
     let mut tape = [0u8; 16384];
-    let mut words = [0xaaaa_aaaau32; 98304];
+    let mut words = [0xaaaa_aaaau32; 131072];
     let mut out = [0xaau8; 131072];
     let space = next(line, 0, b' ');
     if 32768 < space {

@@ -38,7 +38,7 @@ module _ {t w out : List ℕ} {n e pos : ℕ} {kept : List Name} {s : Scalar} (o
   pub once-under : repOf (piecesIn t) (val s) < n
   once-under = omega (arith, once-in, rep-le (piecesIn t) e (scalar s) (o .behind) (o .stands))
 
-  pub once-long : length w ≡ n * 6
+  pub once-long : length w ≡ n * 8
   once-long = o .stand .indexed .long
 
   pub once-small : pos < 2 ^ 32

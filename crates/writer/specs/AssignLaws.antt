@@ -25,7 +25,7 @@ use Rattle.writer.specs.ReadyLaws.{kindAt, ready-count, ready-small, sta
 
 -- what `assign_each` asks, and what it answers
 abbrev pub Asks : List ℕ → ℕ → ℕ → ℕ → ℕ → ℕ → ℕ → Type 0
-Asks w n first stop pair side k = (length w ≡ n * 6) × ((rs : List ℕ) × Path w n stop pair side first rs × (k + length rs < 2 ^ 32))
+Asks w n first stop pair side k = (length w ≡ n * 8) × ((rs : List ℕ) × Path w n stop pair side first rs × (k + length rs < 2 ^ 32))
 
 abbrev pub Answers : List ℕ → ℕ → ℕ → ℕ → ℕ → ℕ → ℕ → List ℕ → ℕ → Type 0
 Answers w n first stop pair side k v m = (rs : List ℕ) → Path w n stop pair side first rs → (v ≡ marked w n k rs .words) × (m ≡ marked w n k rs .next)

@@ -23,14 +23,14 @@ aloneIn i (end ∷ r) = 0
 
 -- OFF, REP, and of NEXT what an event says by itself, of the events before e
 pub record Collected (t w : List ℕ) (n e : ℕ) : Type 0 where
-  pub long : length w ≡ n * 6
+  pub long : length w ≡ n * 8
   pub off : (i : ℕ) → i < e → getD w i 0 ≡ startAt t i
   pub rep : (i : ℕ) (p : Piece) (r : List Piece) → i < e → drop i (piecesIn t) ≡ p ∷ r → getD w (n + i) 0 ≡ repOf (piecesIn t) (nameOf i p)
   pub alone : (i : ℕ) → i < e → getD w (n + n + i) 0 ≡ aloneIn i (drop i (piecesIn t))
 
 -- OFF and REP of all events; NEXT and LEN of those from e on, NEXT of the others as it was collected
 pub record Measured (t w : List ℕ) (n e : ℕ) : Type 0 where
-  pub long : length w ≡ n * 6
+  pub long : length w ≡ n * 8
   pub off : (i : ℕ) → i < n → getD w i 0 ≡ startAt t i
   pub rep : (i : ℕ) (p : Piece) (r : List Piece) → i < n → drop i (piecesIn t) ≡ p ∷ r → getD w (n + i) 0 ≡ repOf (piecesIn t) (nameOf i p)
   pub alone : (i : ℕ) → i < e → getD w (n + n + i) 0 ≡ aloneIn i (drop i (piecesIn t))

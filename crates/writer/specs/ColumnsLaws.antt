@@ -61,39 +61,53 @@ pub indexed-set : {t : List ℕ} {n : ℕ} → Ready t n → {w : List ℕ} → 
 indexed-set r m k v h = measured-set r m (omega arith) k v h
 
 -- before the first event
-pub collected-none : (t w : List ℕ) (n : ℕ) → length w ≡ n * 6 → Collected t w n 0
+pub collected-none : (t w : List ℕ) (n : ℕ) → length w ≡ n * 8 → Collected t w n 0
 collected-none t w n h = record { long = h; off = λ i l. absurd (omega arith); rep = λ i p q l d. absurd (omega arith); alone = λ i l. absurd (omega arith) }
 
--- an event more is collected
-module _ {t w : List ℕ} {n e : ℕ} (c : Collected t w n e) (p : Piece) (q : List Piece) (d : drop e (piecesIn t) ≡ p ∷ q) (l : e < n) where
-  pub collected-more : (rep next : ℕ) → rep ≡ repOf (piecesIn t) (nameOf e p) → next ≡ aloneIn e (p ∷ q) → Collected t (set (set (set w e (startAt t e)) (n + e) rep) (n + n + e) next) n (suc e)
+-- only words behind the columns change, and OFF of event e
+pub collected-kept :
+    {t w : List ℕ} {n e : ℕ} → Collected t w n e → e < n → (v : List ℕ) → length v ≡ length w → ((i : ℕ) → i < n * 4 → (i ≡ e → ⊥) → getD v i 0 ≡ getD w i 0) → Collected t v n e
+collected-kept {t} {w} {n} {e} c l v long same =
+    record {
+      long = long ∙ c .long;
+      off = λ i h. same i (omega arith) (λ z. omega arith) ∙ c .off i h;
+      rep = λ i p q h d. same (n + i) (omega arith) (λ z. omega arith) ∙ c .rep i p q h d;
+      alone = λ i h. same (n + n + i) (omega arith) (λ z. omega arith) ∙ c .alone i h;
+    }
+
+-- an event more is collected, whose OFF stands
+module _ {t w : List ℕ} {n e : ℕ} (c : Collected t w n e) (p : Piece) (q : List Piece) (d : drop e (piecesIn t) ≡ p ∷ q) (l : e < n) (stands : getD w e 0 ≡ startAt t e) where
+  pub collected-more : (rep next : ℕ) → rep ≡ repOf (piecesIn t) (nameOf e p) → next ≡ aloneIn e (p ∷ q) → Collected t (set (set w (n + e) rep) (n + n + e) next) n (suc e)
   collected-more rep next f g = record { long = simp length-set (c .long); off = off; rep = reps; alone = alone }
     where
-      room : length w ≡ n * 6
+      room : length w ≡ n * 8
       room = c .long
 
-      w₁ : List ℕ
-      w₁ = set w e (startAt t e)
-
       w₂ : List ℕ
-      w₂ = set w₁ (n + e) rep
+      w₂ = set w (n + e) rep
+
+      old : (i : ℕ) → i < suc e → (b : Bool) → eqb i e ≡ b → getD w i 0 ≡ startAt t i
+      old i h true z = rw (eqb-true i e z) stands
+      old i h false z =
+          let y : i ≡ e → ⊥ = eqb-false i e z in
+          c .off i (omega arith)
 
       off : (i : ℕ) → i < suc e → getD (set w₂ (n + n + e) next) i 0 ≡ startAt t i
       off i h =
           getD-set-other w₂ (n + n + e) i next 0 (omega arith)
-          ∙ getD-set-other w₁ (n + e) i rep 0 (omega arith)
-          ∙ word-set w e (startAt t e) i (omega arith) (λ z. rw z) (λ z. c .off i (omega arith))
+          ∙ getD-set-other w (n + e) i rep 0 (omega arith)
+          ∙ old i h (eqb i e) refl
 
       reps : (i : ℕ) (o : Piece) (s : List Piece) → i < suc e → drop i (piecesIn t) ≡ o ∷ s → getD (set w₂ (n + n + e) next) (n + i) 0 ≡ repOf (piecesIn t) (nameOf i o)
       reps i o s h b =
           getD-set-other w₂ (n + n + e) (n + i) next 0 (omega arith)
-          ∙ word-set w₁ (n + e) rep (n + i) (rw length-set (omega arith))
+          ∙ word-set w (n + e) rep (n + i) (omega arith)
           (λ z.
           let y : i ≡ e = omega arith in
           let k : drop e (piecesIn t) ≡ o ∷ s = rw y at b in
           let x : o ≡ p = head-eq-of-cons-eq (sym k ∙ d) in
           rw (y, x) f)
-          (λ z. getD-set-other w e (n + i) (startAt t e) 0 (omega arith) ∙ c .rep i o s (omega arith) b)
+          (λ z. c .rep i o s (omega arith) b)
 
       alone : (i : ℕ) → i < suc e → getD (set w₂ (n + n + e) next) (n + n + i) 0 ≡ aloneIn i (drop i (piecesIn t))
       alone i h =
@@ -101,7 +115,4 @@ module _ {t w : List ℕ} {n e : ℕ} (c : Collected t w n e) (p : Piece) (q : L
           (λ z.
           let y : i ≡ e = omega arith in
           rw (y, d) g)
-          (λ z.
-          getD-set-other w₁ (n + e) (n + n + i) rep 0 (omega arith)
-          ∙ getD-set-other w e (n + n + i) (startAt t e) 0 (omega arith)
-          ∙ c .alone i (omega arith))
+          (λ z. getD-set-other w (n + e) (n + n + i) rep 0 (omega arith) ∙ c .alone i (omega arith))

@@ -36,10 +36,10 @@ written =
 
 -- just enough room; a word too few; a byte too few; both: the words are asked for first
 pub answers :
-    (writeOf tape 30 51 ≡ long 51) ×
-    (writeOf tape 29 51 ≡ refused 24 [] 0) ×
-    (writeOf tape 30 50 ≡ refused 25 [] 0) ×
-    (writeOf tape 29 50 ≡ refused 24 [] 0) ×
+    (writeOf tape 40 51 ≡ long 51) ×
+    (writeOf tape 39 51 ≡ refused 24 [] 0) ×
+    (writeOf tape 40 50 ≡ refused 25 [] 0) ×
+    (writeOf tape 39 50 ≡ refused 24 [] 0) ×
     -- a tape that is none is refused first: {1 ..
     (writeOf (0x0C ∷ 0x03 ∷ 0x01 ∷ []) 0 0 ≡ refused 21 (DictionaryKeyOrEndCollection ∷ Integer ∷ []) 1)
 unfolding writeOf byCheck wordsFor fittedOf meaningsIn meantBy eventsOf eventsFrom before checkOf checkFrom finishOf moveOf refusedAt numberOf kindsOf isNothing afterOf unexpectedOf unlessKey endTurn textTurn turnOf stoppedAt turnBy turnAt fileFor fileOf magic body table tableAt offsetSize placeOf bytesAt refSize flat ahead pieceOf order number emission spoken names laid kids evens bodyOf objectOf meant meaningIn same sameBytes nub nubOnto has indexOf objectBytes scalarBytes textBytes headBytes nibbleOf integerBytes numberBytes numbersBytes sizeMarker trailerBytes bytesOf sizeOf rounded needed isAscii bytesFor seven groups readAt readingOf itemAt ofKind plain partAt numbered textIn meaningAt meaningOf valueOf givenOf numberAt numberFrom onto be digit isUtf8 wellFormed rowOf rows within
@@ -47,10 +47,10 @@ answers = (refl, refl, refl, refl, refl)
 
 -- the file stands at the output's start, and what lies behind it stays; a refusal leaves it all; how many words may change
 pub memory :
-    (outputOf tape 30 (replicate 53 7) ≡ written ++ (7 ∷ 7 ∷ [])) ×
-    (outputOf tape 30 (replicate 50 7) ≡ replicate 50 7) ×
-    (outputOf tape 29 (replicate 53 7) ≡ replicate 53 7) ×
-    (usedOf tape 40 ≡ 30) ×
-    (usedOf tape 29 ≡ 0)
+    (outputOf tape 40 (replicate 53 7) ≡ written ++ (7 ∷ 7 ∷ [])) ×
+    (outputOf tape 40 (replicate 50 7) ≡ replicate 50 7) ×
+    (outputOf tape 39 (replicate 53 7) ≡ replicate 53 7) ×
+    (usedOf tape 50 ≡ 40) ×
+    (usedOf tape 39 ≡ 0)
 unfolding writeOf byCheck wordsFor fittedOf outputBy outputOf usedBy usedOf meaningsIn meantBy eventsOf eventsFrom before checkOf checkFrom finishOf moveOf refusedAt numberOf kindsOf isNothing afterOf unexpectedOf unlessKey endTurn textTurn turnOf stoppedAt turnBy turnAt fileFor fileOf magic body table tableAt offsetSize placeOf bytesAt refSize flat ahead pieceOf order number emission spoken names laid kids evens bodyOf objectOf meant meaningIn same sameBytes nub nubOnto has indexOf objectBytes scalarBytes textBytes headBytes nibbleOf integerBytes numberBytes numbersBytes sizeMarker trailerBytes bytesOf sizeOf rounded needed isAscii bytesFor seven groups readAt readingOf itemAt ofKind plain partAt numbered textIn meaningAt meaningOf valueOf givenOf numberAt numberFrom onto be digit isUtf8 wellFormed rowOf rows within
 memory = (refl, refl, refl, refl, refl)

@@ -34,11 +34,11 @@ module _ (t : List ℕ) (words : ℕ) (out : List ℕ) where
   unfolding writtenSaid writeOf byCheck outputOf outputBy usedOf usedBy refusedAt
   at-refusal r place e = rw e (refl, refl, refl)
 
-  pub at-words : (n : ℕ) → checkOf t ≡ whole n → words < n * 6 → (writtenSaid NoRoomForWork ≡ writeOf t words (length out)) × (out ≡ outputOf t words out) × (usedOf t words ≡ 0)
+  pub at-words : (n : ℕ) → checkOf t ≡ whole n → words < n * 8 → (writtenSaid NoRoomForWork ≡ writeOf t words (length out)) × (out ≡ outputOf t words out) × (usedOf t words ≡ 0)
   unfolding writtenSaid writeOf byCheck outputOf outputBy usedOf usedBy wordsFor
-  at-words n e h = rw (e, lt-ltb words (n * 6) h) (refl, refl, refl)
+  at-words n e h = rw (e, lt-ltb words (n * 8) h) (refl, refl, refl)
 
-  pub at-file : (n : ℕ) → checkOf t ≡ whole n → n * 6 ≤ words
-      → (writeOf t words (length out) ≡ fittedOf (fileOf (piecesIn t)) (length out)) × (outputOf t words out ≡ outputBy (fittedOf (fileOf (piecesIn t)) (length out)) (fileOf (piecesIn t)) out) × (usedOf t words ≡ n * 6)
+  pub at-file : (n : ℕ) → checkOf t ≡ whole n → n * 8 ≤ words
+      → (writeOf t words (length out) ≡ fittedOf (fileOf (piecesIn t)) (length out)) × (outputOf t words out ≡ outputBy (fittedOf (fileOf (piecesIn t)) (length out)) (fileOf (piecesIn t)) out) × (usedOf t words ≡ n * 8)
   unfolding writeOf byCheck outputOf usedOf usedBy wordsFor fileFor piecesIn
-  at-file n e h = rw (e, le-ltb words (n * 6) h) (refl, refl, refl)
+  at-file n e h = rw (e, le-ltb words (n * 8) h) (refl, refl, refl)

@@ -1,3 +1,5 @@
+pub mod Alike
+pub mod AlikeLaws
 pub mod AssignLaws
 pub mod CheckLaws
 pub mod ClearLaws
@@ -9,6 +11,8 @@ pub mod Examples
 pub mod Find
 pub mod FindLaws
 pub mod FittedLaws
+pub mod Index
+pub mod IndexLaws
 pub mod IndexedLaws
 pub mod KeptLaws
 pub mod Marks

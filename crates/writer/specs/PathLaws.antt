@@ -28,11 +28,11 @@ path-unique (x ∷ rs) (y ∷ qs) w n stop pair side i (_, _, _, d, _, _, p) (_,
 pub record Walk (w₀ : List ℕ) (n first stop pair side next : ℕ) (w : List ℕ) (i k : ℕ) : Type 0 where
   pub left : List ℕ
   pub way : Path w n stop pair side i left
-  pub long : length w ≡ n * 6
+  pub long : length w ≡ n * 8
   pub few : k + length left < 2 ^ 32
   pub rest : (qs : List ℕ) → Path w₀ n stop pair side first qs → marked w n k left ≡ marked w₀ n next qs
 
-pub walk-start : {w : List ℕ} {n first stop pair side next : ℕ} (rs : List ℕ) → length w ≡ n * 6 → Path w n stop pair side first rs → next + length rs < 2 ^ 32 → Walk w n first stop pair side next w first next
+pub walk-start : {w : List ℕ} {n first stop pair side next : ℕ} (rs : List ℕ) → length w ≡ n * 8 → Path w n stop pair side first rs → next + length rs < 2 ^ 32 → Walk w n first stop pair side next w first next
 walk-start {w} {n} {first} {stop} {pair} {side} {next} rs l p f =
     record {
       left = rs;

@@ -83,7 +83,7 @@ unfolding refSize
 ref-le es = sized-le (sized (length (order es) - 1))
 
 -- the column AT of all objects is the table
-module _ {t : List ℕ} {n : ℕ} (ready : Ready t n) (w : List ℕ) (long : length w ≡ n * 6) (placed : Placed t w n (emission (piecesIn t))) where
+module _ {t : List ℕ} {n : ℕ} (ready : Ready t n) (w : List ℕ) (long : length w ≡ n * 8) (placed : Placed t w n (emission (piecesIn t))) where
   place-at : (i : ℕ) → i < length (order (piecesIn t)) → getD w (n * 5 + i) 0 ≡ placeOf (piecesIn t) (getD (order (piecesIn t)) i (box 0))
   unfolding placeIn placeOf
   place-at i h =

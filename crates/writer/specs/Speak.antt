@@ -116,13 +116,13 @@ Refs w n stop pair side i (x ∷ xs) =
 
 -- what is known where references to objects of these numbers are to be written
 pub record Each (w out : List ℕ) (n first stop pair side width from : ℕ) (ks : List ℕ) : Type 0 where
-  pub long : length w ≡ n * 6
+  pub long : length w ≡ n * 8
   pub refs : Refs w n stop pair side first ks
   pub room : from + length ks * width ≤ length out
 
 -- the same of a whole array, which begins at event e
 pub record Listed (w out : List ℕ) (n e stop width pos : ℕ) (ks : List ℕ) : Type 0 where
-  pub long : length w ≡ n * 6
+  pub long : length w ≡ n * 8
   pub within : e < n
   pub members : getD w (n * 3 + e) 0 ≡ length ks
   pub refs : Refs w n stop 0 0 (e + 1) ks
@@ -130,7 +130,7 @@ pub record Listed (w out : List ℕ) (n e stop width pos : ℕ) (ks : List ℕ) 
 
 -- and of a whole dictionary
 pub record Paired (w out : List ℕ) (n e stop width pos : ℕ) (ks vs : List ℕ) : Type 0 where
-  pub long : length w ≡ n * 6
+  pub long : length w ≡ n * 8
   pub within : e < n
   pub members : getD w (n * 3 + e) 0 / 2 ≡ length ks
   pub keys : Refs w n stop 1 0 (e + 1) ks

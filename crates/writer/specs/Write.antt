@@ -30,7 +30,7 @@ writtenSaid FileTooLong = refused 26 [] 0
 
 -- words for n events
 unfoldable pub wordsFor : ℕ → ℕ
-wordsFor n = n * 6
+wordsFor n = n * 8
 
 -- a file that is to stand in so much room
 unfoldable pub fittedOf : List ℕ → ℕ → Said
@@ -52,7 +52,7 @@ outputBy (refused number kinds place) file out = out
 unfoldable pub outputOf : List ℕ → ℕ → List ℕ → List ℕ
 outputOf tape words out = outputBy (writeOf tape words (length out)) (fileFor (meaningsIn tape)) out
 
--- how many words may have changed: six for each event, once there are as many
+-- how many words may have changed: eight for each event, once there are as many
 unfoldable pub usedBy : check.Said → ℕ → ℕ
 usedBy (check.refused number kinds place) words = 0
 usedBy (check.whole n) words = cond (ltb words (wordsFor n)) 0 (wordsFor n)

@@ -52,7 +52,7 @@ fn assign_each(
     side: usize,
     next: usize,
 ) -> usize
-    requires { ⌜ (length (now work) ≡ n * 6) × ((rs : List ℕ) × Path (now work) n stop pair side first rs × (next + length rs < 2 ^ 32)) ⌝ }
+    requires { ⌜ (length (now work) ≡ n * 8) × ((rs : List ℕ) × Path (now work) n stop pair side first rs × (next + length rs < 2 ^ 32)) ⌝ }
     ensures { λ r. ⌜ ((rs : List ℕ) → Path (now (work .entry)) n stop pair side first rs → (now (work .exit) ≡ marked (now (work .entry)) n next rs .words) × (r ≡ marked (now (work .entry)) n next rs .next)) ⌝ }
 {
     let mut i = first;

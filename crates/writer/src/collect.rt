@@ -1,5 +1,6 @@
 // OFF and REP of every event; of NEXT what an event says by itself.
 use crate::find::find;
+use crate::words::clear;
 use crate::words::set_word;
 use tape::end::End;
 use tape::end::end_of;
@@ -10,12 +11,15 @@ ghost use Rattle.event.specs.Meaning.{Meaning};
 ghost use Rattle.tape.specs.Item.{readAt, event};
 ghost use Rattle.writer.specs.Collect.{FirstOf, aloneBy, Turn};
 ghost use Rattle.writer.specs.Columns.{Collected};
+ghost use Rattle.writer.specs.Find.{Entered};
+ghost use Rattle.writer.specs.Index.{Index};
 ghost use Rattle.writer.specs.Ready.{Ready, startAt};
 
 pub(crate) fn collect(tape: &[u8], work: &mut [u32], n: usize)
-    requires { ⌜ Ready (now tape) n × (length (now work) ≡ n * 6) ⌝ }
+    requires { ⌜ Ready (now tape) n × (length (now work) ≡ n * 8) ⌝ }
     ensures { λ _. ⌜ Collected (now (tape .entry)) (now (work .exit)) n n ⌝ }
 {
+    clear(work, n * 4, n * 8);
     let mut at: usize = 0;
     let mut e: usize = 0;
     while e < n {
@@ -26,12 +30,12 @@ pub(crate) fn collect(tape: &[u8], work: &mut [u32], n: usize)
 
 // Answers the place after the event.
 fn collect_event(tape: &[u8], work: &mut [u32], n: usize, e: usize, at: usize) -> usize
-    requires { ⌜ Ready (now tape) n × (e < n) × (at ≡ startAt (now tape) e) × Collected (now tape) (now work) n e ⌝ }
-    ensures { λ r. ⌜ (r ≡ startAt (now (tape .entry)) (suc e)) × Collected (now (tape .entry)) (now (work .exit)) n (suc e) ⌝ }
+    requires { ⌜ Ready (now tape) n × (e < n) × (at ≡ startAt (now tape) e) × Collected (now tape) (now work) n e × Index (now tape) (now work) n e ⌝ }
+    ensures { λ r. ⌜ (r ≡ startAt (now (tape .entry)) (suc e)) × Collected (now (tape .entry)) (now (work .exit)) n (suc e) × Index (now (tape .entry)) (now (work .exit)) n (suc e) ⌝ }
 {
     let end = place_after(tape, at);
     set_word(work, e, at);
-    let first = first_like(tape, work, e, at, end);
+    let first = first_like(tape, work, n, e, at, end);
     set_word(work, n + e, first);
     let next = alone(tape[at], e);
     set_word(work, n + n + e, next);
@@ -49,12 +53,13 @@ fn place_after(tape: &[u8], at: usize) -> usize
 }
 
 // REP: containers and ends are never equal.
-fn first_like(tape: &[u8], work: &[u32], e: usize, at: usize, end: usize) -> usize
-    requires { ⌜ Turn (now tape) (now work) e at end ⌝ }
+fn first_like(tape: &[u8], work: &mut [u32], n: usize, e: usize, at: usize, end: usize) -> usize
+    requires { ⌜ Turn (now tape) (now work) n e at end ⌝ }
     ensures { λ r. ⌜ FirstOf (now (tape .entry)) e r ⌝ }
+    ensures { λ _. ⌜ Entered (now (tape .entry)) (now (work .entry)) (now (work .exit)) n e ⌝ }
 {
     if tape[at] < 0x0a {
-        return find(tape, work, e, &tape[at..end]);
+        return find(tape, work, n, e, &tape[at..end]);
     }
     e
 }

@@ -7,6 +7,8 @@
 //   3  LEN   of a container how many members it has; of a scalar that is its own REP the units of a text that isn't ASCII, else 0
 //   4  NUM   of an event that is its own REP the object's number plus 1; 0 is none yet
 //   5  AT    where object i begins in the file; 0 is nowhere yet
+// Until REP stands for all events, the words from column 4 to the last are the index by which it is found (find.rt).
+mod alike;
 pub mod answer;
 mod assign;
 mod collect;
@@ -31,7 +33,7 @@ ghost use Rattle.writer.specs.Ready.{Ready, piecesIn};
 ghost use Rattle.writer.specs.Write.{writtenSaid, fittedOf, writeOf, outputBy, outputOf, usedOf};
 
 // Lent words for each event.
-pub const COLUMNS: usize = 6;
+pub const COLUMNS: usize = 8;
 
 // The file of a tape's events at the start of the output. That the lent tape is bytes, as the machine's are, is said so that what holds of every
 // written file needs no such condition.
@@ -55,7 +57,7 @@ pub fn write_file(tape: &[u8], work: &mut [u32], out: &mut [u8]) -> Written
 
 // The same for a tape of n events that is one whole root, and as many words as it needs.
 fn write_events(tape: &[u8], work: &mut [u32], n: usize, out: &mut [u8]) -> Written
-    requires { ⌜ Ready (now tape) n × (length (now work) ≡ n * 6) ⌝ }
+    requires { ⌜ Ready (now tape) n × (length (now work) ≡ n * 8) ⌝ }
     ensures { λ r. ⌜ writtenSaid r ≡ fittedOf (fileOf (piecesIn (now (tape .entry)))) (length (now (out .entry))) ⌝ }
     ensures { λ _. ⌜ now (out .exit) ≡ outputBy (fittedOf (fileOf (piecesIn (now (tape .entry)))) (length (now (out .entry)))) (fileOf (piecesIn (now (tape .entry)))) (now (out .entry)) ⌝ }
 {

@@ -21,7 +21,7 @@ pub(crate) struct Plan {
 
 // The columns OFF to NUM of n events, and the plan.
 pub(crate) fn plan_file(tape: &[u8], work: &mut [u32], n: usize) -> Plan
-    requires { ⌜ Ready (now tape) n × (length (now work) ≡ n * 6) ⌝ }
+    requires { ⌜ Ready (now tape) n × (length (now work) ≡ n * 8) ⌝ }
     ensures { λ r. ⌜ Foreseen (now (tape .entry)) (now (work .exit)) n r ⌝ }
 {
     collect(tape, work, n);

@@ -245,7 +245,7 @@ fn put_trailer(out: &mut [u8], pos: usize, size: usize, width: usize, count: usi
 
 // Where AT of an object stands; r is its first event.
 fn place_of(work: &[u32], n: usize, r: usize) -> usize
-    requires { ⌜ (length (now work) ≡ n * 6) × (r < n) × (0 < getD (now work) (n * 4 + r) 0) ⌝ }
+    requires { ⌜ (length (now work) ≡ n * 8) × (r < n) × (0 < getD (now work) (n * 4 + r) 0) ⌝ }
     ensures { λ p. ⌜ suc p ≡ n * 5 + getD (now (work .entry)) (n * 4 + r) 0 ⌝ }
 {
     n * 5 + word(work, n * 4 + r) - 1

@@ -41,13 +41,13 @@ wrong = 0x0D ∷ 0x07 ∷ 0x09 ∷ 0x01 ∷ 0x61 ∷ 0x0B ∷ 0xC8 ∷ 0x01 ∷ 
 pub with-lengths :
     (fileFor (meaningsIn given) ≡ fileFor (meaningsIn without)) ×
     (fileFor (meaningsIn wrong) ≡ fileFor (meaningsIn without)) ×
-    (writeOf without 36 53 ≡ long 53) ×
-    (writeOf given 36 53 ≡ long 53) ×
-    (writeOf wrong 36 53 ≡ long 53) ×
-    (writeOf without 36 52 ≡ refused 25 [] 0) ×
-    (writeOf wrong 36 52 ≡ refused 25 [] 0) ×
-    (writeOf without 35 53 ≡ refused 24 [] 0) ×
-    (writeOf wrong 35 53 ≡ refused 24 [] 0)
+    (writeOf without 48 53 ≡ long 53) ×
+    (writeOf given 48 53 ≡ long 53) ×
+    (writeOf wrong 48 53 ≡ long 53) ×
+    (writeOf without 48 52 ≡ refused 25 [] 0) ×
+    (writeOf wrong 48 52 ≡ refused 25 [] 0) ×
+    (writeOf without 47 53 ≡ refused 24 [] 0) ×
+    (writeOf wrong 47 53 ≡ refused 24 [] 0)
 unfolding writeOf byCheck wordsFor fittedOf meaningsIn meantBy eventsOf eventsFrom before checkOf checkFrom finishOf moveOf refusedAt numberOf kindsOf isNothing afterOf unexpectedOf unlessKey endTurn textTurn turnOf stoppedAt turnBy turnAt fileFor fileOf magic body table tableAt offsetSize placeOf bytesAt refSize flat ahead pieceOf order number emission spoken names laid kids evens bodyOf objectOf meant meaningIn same sameBytes nub nubOnto has indexOf objectBytes scalarBytes textBytes headBytes nibbleOf integerBytes numberBytes numbersBytes sizeMarker trailerBytes bytesOf sizeOf rounded needed isAscii bytesFor seven groups readAt readingOf itemAt ofKind plain partAt numbered textIn meaningAt meaningOf valueOf givenOf realOf floatBits nanBits isNan ofBits toBits numberAt numberFrom onto eightAt be digit isUtf8 wellFormed rowOf rows within
 with-lengths = (refl, refl, refl, refl, refl, refl, refl, refl, refl)
 
@@ -67,8 +67,8 @@ minus = 0x0A ∷ 0x05 ∷ 0x80 ∷ 0x00 ∷ 0x00 ∷ 0x00 ∷ 0x00 ∷ 0x00 ∷ 
 
 -- the files are as long, and differ in the real's first byte
 pub signs :
-    (writeOf plus 18 53 ≡ long 53) ×
-    (writeOf minus 18 53 ≡ long 53) ×
+    (writeOf plus 24 53 ≡ long 53) ×
+    (writeOf minus 24 53 ≡ long 53) ×
     (getD (fileFor (meaningsIn plus)) 11 0 ≡ 0x00) ×
     (getD (fileFor (meaningsIn minus)) 11 0 ≡ 0x80)
 unfolding writeOf byCheck wordsFor fittedOf meaningsIn meantBy eventsOf eventsFrom before checkOf checkFrom finishOf moveOf refusedAt numberOf kindsOf isNothing afterOf unexpectedOf unlessKey endTurn textTurn turnOf stoppedAt turnBy turnAt fileFor fileOf magic body table tableAt offsetSize placeOf bytesAt refSize flat ahead pieceOf order number emission spoken names laid kids evens bodyOf objectOf meant meaningIn same sameBytes nub nubOnto has indexOf objectBytes scalarBytes textBytes headBytes nibbleOf integerBytes numberBytes numbersBytes sizeMarker trailerBytes bytesOf sizeOf rounded needed isAscii bytesFor seven groups readAt readingOf itemAt ofKind plain partAt numbered textIn meaningAt meaningOf valueOf givenOf realOf floatBits nanBits isNan ofBits toBits numberAt numberFrom onto eightAt be digit isUtf8 wellFormed rowOf rows within

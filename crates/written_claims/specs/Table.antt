@@ -67,7 +67,7 @@ arrays-written : fileFor (meaningsIn (arrays 64)) ≡ reading.nested 63
 unfolding meaningsIn meantBy eventsOf eventsFrom before readAt readingOf itemAt ofKind plain meaningIn meaningOf givenOf fileFor fileOf magic body table tableAt offsetSize placeOf bytesAt refSize flat ahead pieceOf order number emission spoken names laid kids bodyOf objectOf same nub nubOnto has indexOf objectBytes headBytes nibbleOf numbersBytes trailerBytes bytesOf sizeOf rounded needed
 arrays-written = refl
 
-arrays-answered : (writeOf (arrays 64) 768 231 ≡ long 231) × (writeOf (arrays 65) 780 234 ≡ writer.refused 15 [] 64)
+arrays-answered : (writeOf (arrays 64) 1024 231 ≡ long 231) × (writeOf (arrays 65) 1040 234 ≡ writer.refused 15 [] 64)
 unfolding writeOf byCheck wordsFor fittedOf checkOf checkFrom finishOf moveOf refusedAt numberOf kindsOf isNothing afterOf unexpectedOf unlessKey endTurn turnOf turnBy turnAt meaningsIn meantBy eventsOf eventsFrom before readAt readingOf itemAt ofKind plain meaningIn meaningOf givenOf magic trailerBytes bytesOf
 arrays-answered = (rw arrays-written refl, refl)
 
@@ -80,10 +80,10 @@ pub cases :
     (map (λ (c : writing.Case). fileFor (c .events)) writing.cases ≡ map (λ (c : writing.Case). c .file) writing.cases) ×
     (map (λ (c : writing.Case). answers 8 (c .file) freshReader) writing.cases ≡ readings) ×
     -- 64 arrays: written; read, from the 64th start on, with its end
-    (writeOf (arrays 64) 768 231 ≡ long 231) ×
+    (writeOf (arrays 64) 1024 231 ≡ long 231) ×
     (fileFor (meaningsIn (arrays 64)) ≡ reading.nested 63) ×
     (drop 63 (answers 65 (reading.nested 63) freshReader) ≡ means (array (some 0)) 134 ∷ means close 134 ∷ []) ×
     -- 65: both refuse the last one with 15, at its offset in the tape and in the file
-    (writeOf (arrays 65) 780 234 ≡ writer.refused 15 [] 64) ×
+    (writeOf (arrays 65) 1040 234 ≡ writer.refused 15 [] 64) ×
     (drop 63 (answers 66 (reading.nested 64) freshReader) ≡ means (array (some 1)) 134 ∷ refused 15 [] 136 ∷ ended ∷ [])
 cases = (p1, reading.cases-right, writing.cases-right, readings-right, arrays-answered .0, arrays-written, reading.deep-64, arrays-answered .1, reading.deep-65)

@@ -46,8 +46,8 @@ mul-words c = search needs
 slice-relend-prefix-write-events : tie.Need-slice-relend-prefix-write-events
 slice-relend-prefix-write-events c = search needs
 
--- the part of the words has six for each event
-lent : (c : tie.Else1) → eventsIn (c .before .before) * 6 ≤ length (c .before .before .before .before .before .before .before .before .args .work .now)
+-- the part of the words has eight for each event
+lent : (c : tie.Else1) → eventsIn (c .before .before) * 8 ≤ length (c .before .before .before .before .before .before .before .before .args .work .now)
 lent c = omega (arith, c .if1 .left)
 
 slice-aggregate-write-events : tie.Need-slice-aggregate-write-events
@@ -79,7 +79,7 @@ returns-3 c =
     let a = d .before .before .before .before .before .before .before .before .args in
     let w = c .before .before .before .before .write-events in
     let f = at-file (a .tape .now) (length (a .work .now)) (a .out .now) (eventsIn (d .before .before)) (checked (d .before .before)) (lent d) in
-    let l : length (w .last .1 .0) ≡ eventsIn (d .before .before) * 6 = c .before .before .before .work .given .0 ∙ length-take-le (eventsIn (d .before .before) * 6) (a .work .now) (lent d) in
+    let l : length (w .last .1 .0) ≡ eventsIn (d .before .before) * 8 = c .before .before .before .work .given .0 ∙ length-take-le (eventsIn (d .before .before) * 8) (a .work .now) (lent d) in
     (w .ensures .0 ∙ sym (f .0), (w .ensures .1 ∙ sym (f .1), (rw (f .2) (drop-at (w .last .1 .0) _ _ l), tape-bytes (d .before .before .before .before .before .before .before))))
 
 pub write-file-spec : {M : Type 1} → statement M

@@ -33,7 +33,7 @@ going c = c .before .loop .inv (begun c .pre .0) (begun c .pre .1)
 met : (c : tie.In-loop Inv-loop μ-loop) → let a = begun c .args in Met (a .work .now) (a .n) (a .stop) (a .pair) (a .side) (c .before .loop .i) (going c .left)
 met c = going-met (going c) (c .loop-test .taken)
 
-long : (c : tie.In-loop Inv-loop μ-loop) → length (begun c .args .work .now) ≡ begun c .args .n * 6
+long : (c : tie.In-loop Inv-loop μ-loop) → length (begun c .args .work .now) ≡ begun c .args .n * 8
 long c = begun c .pre .1 .long
 
 mul-word : tie.Need-mul-word Inv-loop μ-loop

@@ -45,7 +45,7 @@ sized : (c : tie.After-size-for) → c .size-for .result ≡ offsetSize (piecesI
 sized c = c .size-for .ensures ∙ ap sizeOf (begun c .pre .behind) ∙ sym (offset-is (piecesIn (begun c .args .tape .now)))
 
 -- the words are as many as before
-words : (c : tie.After-size-for) → length (c .before .before .before .before .before .put-objects .last .1 .0) ≡ begun c .args .n * 6
+words : (c : tie.After-size-for) → length (c .before .before .before .before .before .put-objects .last .1 .0) ≡ begun c .args .n * 8
 words c = omega (arith, begun c .pre .indexed .long, c .before .before .before .before .work .given)
 
 put-table-requires : tie.Need-put-table-requires

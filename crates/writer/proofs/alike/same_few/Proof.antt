@@ -6,9 +6,9 @@ use native.Mathlib.Omega.{arith}
 use lib.ListN.{length, getD}
 use lib.Seq.{ext-getD}
 use Rattle.written.specs.NameLaws.{bytes-refl}
-use Rattle.writer.specs.FindLaws.{bytes-other, Agree, agree-more}
-use Rattle.writer.proofs.find.same_bytes.Statement.{statement}
-use Rattle.writer.proofs.find.same_bytes.Tie as tie
+use Rattle.writer.specs.AlikeLaws.{bytes-other, Agree, agree-more}
+use Rattle.writer.proofs.alike.same_few.Statement.{statement}
+use Rattle.writer.proofs.alike.same_few.Tie as tie
 
 abbrev Inv-loop : tie.InvT-loop
 Inv-loop a b i₀ i = (i ≤ length a) × Agree a b i (length a)
@@ -51,8 +51,8 @@ returns-2 c =
     let e : a ≡ b = ext-getD 0 a b (c .before .before .pre) (λ j f. c .before .loop .inv .1 j (omega arith) f) in
     rw e (sym (bytes-refl b))
 
-pub same-bytes-spec : {M : Type 1} → statement M
-same-bytes-spec =
+pub same-few-spec : {M : Type 1} → statement M
+same-few-spec =
     tie.close
     (tie.spec
     Inv-loop
