@@ -9,6 +9,8 @@ A record is a kind, a value and an offset. A signed integer's value is its 64 bi
 """
 import struct
 
+import dates
+
 MAX_LENGTH = 2_147_483_648
 MAX_OPEN = 64
 SIZES = (1, 2, 3, 4, 8)
@@ -110,7 +112,7 @@ def object_at(file, refs, offset):
     if marker == 0x23:
         return "scalar", f"real {whole(file, offset, offset + 1, 8):016x}"
     if marker == 0x33:
-        return "scalar", f"date {whole(file, offset, offset + 1, 8):016x}"
+        return "scalar", dates.line_of(whole(file, offset, offset + 1, 8))
     if high in (4, 5, 6):
         length, start = head(file, offset)
         size = length * 2 if high == 6 else length

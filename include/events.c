@@ -3,8 +3,17 @@
 #include "zurrimannu.h"
 
 static uint8_t file[1 << 20], scratch[3 << 19], tape[1 << 24];
-static const char *lines[] = {"", "false", "true", "int %llu", "int -%llu", "real %016llx", "date %016llx", "uid %llu",
-                              "data %llu", "str %llu", "array", "array %llu", "dict", "dict %llu", "close"};
+static const char *lines[] = {"", "false", "true", "int %llu", "int -%llu", "real %016llx", "", "uid %llu", "data %llu",
+                              "str %llu", "array", "array %llu", "dict", "dict %llu", "close"};
+
+/* A date as a day and time, or by its bits where it has none. */
+static void put_date(uint64_t bits) {
+    uint32_t year, month, day, hour, minute, second;
+    if (zm_calendar(bits, &year, &month, &day, &hour, &minute, &second) == 0)
+        printf("date %04u-%02u-%02uT%02u:%02u:%02uZ", year, month, day, hour, minute, second);
+    else
+        printf("date %016llx", (unsigned long long)bits);
+}
 
 int main(void) {
     uint64_t held, place, next, value, start, length;
@@ -16,7 +25,8 @@ int main(void) {
     puts("events");
     for (uint64_t at = 0; at < held; at = next) {
         next = zm_tape_step(tape, held, at, &value, &start, &length); /* an event has a value or a length, or neither */
-        printf(lines[tape[at]], (unsigned long long)(value + length + (tape[at] == ZM_NEGATIVE)));
+        if (tape[at] == ZM_DATE) put_date(value);
+        else printf(lines[tape[at]], (unsigned long long)(value + length + (tape[at] == ZM_NEGATIVE)));
         for (uint64_t i = 0; i < length; i++) printf(i ? "%02x" : " %02x", tape[start + i]);
         putchar('\n');
     }

@@ -21,7 +21,7 @@
 extern "C" {
 #endif
 
-/* The numbers of refusals, of the reader (1 to 17), the event tape (20, 27) and the writer (1, 15, 20 to 26). */
+/* The numbers of refusals, of the reader (1 to 17), the event tape (20, 27), the writer (1, 15, 20 to 26) and the calendar (30). */
 enum {
     ZM_TOO_LONG = 1,
     ZM_END_OF_INPUT = 2,
@@ -48,6 +48,7 @@ enum {
     ZM_NO_ROOM_FOR_OUTPUT = 25,
     ZM_FILE_TOO_LONG = 26,
     ZM_NO_ROOM_FOR_TAPE = 27,
+    ZM_NO_SUCH_TIME = 30,
 };
 
 /* --- text ------------------------------------------------------------------------------------------ */
@@ -161,6 +162,21 @@ enum {
  */
 uint32_t zm_write(const uint8_t *tape, size_t tape_length, uint32_t *work, size_t work_length, uint8_t *out, size_t out_length,
                   uint64_t *value, uint32_t *expected, uint32_t *found);
+
+/* --- dates ----------------------------------------------------------------------------------------- */
+
+/*
+ * The day and time of a date's 64 bits, which are seconds since 2001-01-01 00:00:00 UTC; a fraction goes down. The calendar is the
+ * Gregorian one, for all years from 1 to 9999, without leap seconds. Answers 0, and the six numbers are the day and time; or
+ * ZM_NO_SUCH_TIME where the date is outside these years, is infinite or no number, and all six are 0.
+ */
+uint32_t zm_calendar(uint64_t bits, uint32_t *year, uint32_t *month, uint32_t *day, uint32_t *hour, uint32_t *minute, uint32_t *second);
+
+/*
+ * The seconds from 2001-01-01 00:00:00 UTC to a day and time, negative before it. Answers 0; or ZM_NO_SUCH_TIME where there is no such
+ * day in these years or no such time of day, and `*seconds` is 0.
+ */
+uint32_t zm_seconds(uint32_t year, uint32_t month, uint32_t day, uint32_t hour, uint32_t minute, uint32_t second, int64_t *seconds);
 
 #ifdef __cplusplus
 }

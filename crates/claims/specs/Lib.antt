@@ -19,6 +19,7 @@ pub mod Recursion
 pub mod Refusal
 pub mod Stack
 pub mod Weight
+pub mod WholeSeconds
 pub mod WrongFile
 pub mod WrongFileLaws
 pub mod WrongRequestLaws

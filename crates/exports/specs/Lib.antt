@@ -1,5 +1,6 @@
 pub mod Codes
 pub mod CodesLaws
+pub mod Date
 pub mod TapeAppend
 pub mod TapeStep
 pub mod Transcript

@@ -1,13 +1,18 @@
 -- Computed lines: the listing of P10 of docs/FORMAT.md, whole; and both ends of what a line can hold.
 use mathlib.Core.Bool.{true, false}
-use mathlib.Core.List.{List, [], _∷_, _++_}
+use mathlib.Core.List.{List, [], _∷_, _++_, map}
 use mathlib.Core.Option.{none, some}
 use mathlib.Core.Path.{_≡_, refl}
 use Prim.Native.Nat.{ℕ}
 use lib.IntN.{pos, negsuc}
+use lib.Ieee.{ofBits}
 use Rattle.number.specs.Be.{bytesOf}
-use Rattle.event.specs.Meaning.{array, dictionary, close, boolean, bytes, date, integer, real, text, uid}
-use Rattle.line.specs.Line.{placesOf, digitsOf, decimal, hexDigit, hex, tail, plus, minus, row, lengthGiven, truth, signed, lineOf, refusalLine}
+use Rattle.event.specs.Meaning.{array, dictionary, close, boolean, bytes, integer, real, text, uid}
+use Rattle.calendar.specs.Calendar.{isLeap, daysInYear, daysInMonth, timeSinceOne}
+use Rattle.calendar.specs.Count.{countOff}
+use Rattle.calendar.specs.Date.{sinceWhole, sinceFloor, sinceOf, timeSince, calendarOf}
+use Rattle.calendar.specs.Floor.{ceiling, floorFraction, floorOf, floorOfBits}
+use Rattle.line.specs.Line.{placesOf, digitsOf, decimal, hexDigit, hex, tail, plus, minus, row, lengthGiven, truth, signed, field, three, stamp, dated, dateLine, lineOf, refusalLine}
 use Rattle.line.specs.Put.{fixedLine}
 use Rattle.line.specs.declared.put.Fixed.the-variants.{Events, End, Stopped}
 
@@ -46,10 +51,25 @@ pub two-bytes : lineOf (bytes (0xab ∷ 0xcd ∷ [])) ≡ 100 ∷ 97 ∷ 116 ∷
 unfolding bytesOf placesOf digitsOf decimal hexDigit hex tail plus minus row lengthGiven truth signed lineOf refusalLine fixedLine
 two-bytes = refl
 
--- `real 3ff8000000000000`, `date 00000000000000ff`
-pub bits : lineOf (real 0x3ff8_0000_0000_0000) ++ lineOf (date 0xff) ≡ 114 ∷ 101 ∷ 97 ∷ 108 ∷ 32 ∷ 51 ∷ 102 ∷ 102 ∷ 56 ∷ 48 ∷ 48 ∷ 48 ∷ 48 ∷ 48 ∷ 48 ∷ 48 ∷ 48 ∷ 48 ∷ 48 ∷ 48 ∷ 48 ∷ 10 ∷ 100 ∷ 97 ∷ 116 ∷ 101 ∷ 32 ∷ 48 ∷ 48 ∷ 48 ∷ 48 ∷ 48 ∷ 48 ∷ 48 ∷ 48 ∷ 48 ∷ 48 ∷ 48 ∷ 48 ∷ 48 ∷ 48 ∷ 102 ∷ 102 ∷ 10 ∷ []
+-- `real 3ff8000000000000`
+pub bits : lineOf (real 0x3ff8_0000_0000_0000) ≡ 114 ∷ 101 ∷ 97 ∷ 108 ∷ 32 ∷ 51 ∷ 102 ∷ 102 ∷ 56 ∷ 48 ∷ 48 ∷ 48 ∷ 48 ∷ 48 ∷ 48 ∷ 48 ∷ 48 ∷ 48 ∷ 48 ∷ 48 ∷ 48 ∷ 10 ∷ []
 unfolding bytesOf placesOf digitsOf decimal hexDigit hex tail plus minus row lengthGiven truth signed lineOf refusalLine fixedLine
 bits = refl
+
+-- `date 2001-01-01T00:00:00Z`: 0, and -0
+pub epoch-lines : map dateLine (0 ∷ 0x8000_0000_0000_0000 ∷ []) ≡ (100 ∷ 97 ∷ 116 ∷ 101 ∷ 32 ∷ 50 ∷ 48 ∷ 48 ∷ 49 ∷ 45 ∷ 48 ∷ 49 ∷ 45 ∷ 48 ∷ 49 ∷ 84 ∷ 48 ∷ 48 ∷ 58 ∷ 48 ∷ 48 ∷ 58 ∷ 48 ∷ 48 ∷ 90 ∷ 10 ∷ []) ∷ (100 ∷ 97 ∷ 116 ∷ 101 ∷ 32 ∷ 50 ∷ 48 ∷ 48 ∷ 49 ∷ 45 ∷ 48 ∷ 49 ∷ 45 ∷ 48 ∷ 49 ∷ 84 ∷ 48 ∷ 48 ∷ 58 ∷ 48 ∷ 48 ∷ 58 ∷ 48 ∷ 48 ∷ 90 ∷ 10 ∷ []) ∷ []
+unfolding digitsOf tail row field three stamp dated dateLine calendarOf timeSince sinceOf sinceFloor sinceWhole floorOfBits floorOf floorFraction ceiling ofBits timeSinceOne countOff daysInYear daysInMonth isLeap
+epoch-lines = refl
+
+-- `date 0001-01-01T00:00:00Z`, `date 9999-12-31T23:59:59Z`: the first second, and half a second before the end
+pub end-lines : map dateLine (0xC22D_63C3_7F00_0000 ∷ 0x424D_62D2_3C7F_C000 ∷ []) ≡ (100 ∷ 97 ∷ 116 ∷ 101 ∷ 32 ∷ 48 ∷ 48 ∷ 48 ∷ 49 ∷ 45 ∷ 48 ∷ 49 ∷ 45 ∷ 48 ∷ 49 ∷ 84 ∷ 48 ∷ 48 ∷ 58 ∷ 48 ∷ 48 ∷ 58 ∷ 48 ∷ 48 ∷ 90 ∷ 10 ∷ []) ∷ (100 ∷ 97 ∷ 116 ∷ 101 ∷ 32 ∷ 57 ∷ 57 ∷ 57 ∷ 57 ∷ 45 ∷ 49 ∷ 50 ∷ 45 ∷ 51 ∷ 49 ∷ 84 ∷ 50 ∷ 51 ∷ 58 ∷ 53 ∷ 57 ∷ 58 ∷ 53 ∷ 57 ∷ 90 ∷ 10 ∷ []) ∷ []
+unfolding digitsOf tail row field three stamp dated dateLine calendarOf timeSince sinceOf sinceFloor sinceWhole floorOfBits floorOf floorFraction ceiling ofBits timeSinceOne countOff daysInYear daysInMonth isLeap
+end-lines = refl
+
+-- `date 424d62d23c800000`, the end itself; `date fff8000000000000`, a NaN
+pub no-date-lines : map dateLine (0x424D_62D2_3C80_0000 ∷ 0xFFF8_0000_0000_0000 ∷ []) ≡ (100 ∷ 97 ∷ 116 ∷ 101 ∷ 32 ∷ 52 ∷ 50 ∷ 52 ∷ 100 ∷ 54 ∷ 50 ∷ 100 ∷ 50 ∷ 51 ∷ 99 ∷ 56 ∷ 48 ∷ 48 ∷ 48 ∷ 48 ∷ 48 ∷ 10 ∷ []) ∷ (100 ∷ 97 ∷ 116 ∷ 101 ∷ 32 ∷ 102 ∷ 102 ∷ 102 ∷ 56 ∷ 48 ∷ 48 ∷ 48 ∷ 48 ∷ 48 ∷ 48 ∷ 48 ∷ 48 ∷ 48 ∷ 48 ∷ 48 ∷ 48 ∷ 10 ∷ []) ∷ []
+unfolding bytesOf hexDigit hex tail row dated dateLine calendarOf timeSince sinceOf sinceFloor sinceWhole floorOfBits floorOf floorFraction ceiling ofBits
+no-date-lines = refl
 
 -- `dict 10`, `true`, `false`, `uid 7`, and a container whose length is not given
 pub others : lineOf (dictionary (some 10)) ++ lineOf (boolean true) ++ lineOf (boolean false) ++ lineOf (uid 7) ++ lineOf (array none) ≡ 100 ∷ 105 ∷ 99 ∷ 116 ∷ 32 ∷ 49 ∷ 48 ∷ 10 ∷ 116 ∷ 114 ∷ 117 ∷ 101 ∷ 10 ∷ 102 ∷ 97 ∷ 108 ∷ 115 ∷ 101 ∷ 10 ∷ 117 ∷ 105 ∷ 100 ∷ 32 ∷ 55 ∷ 10 ∷ 97 ∷ 114 ∷ 114 ∷ 97 ∷ 121 ∷ 10 ∷ []

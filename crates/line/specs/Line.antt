@@ -1,4 +1,4 @@
--- The lines of a listing. docs/FORMAT.md, rules L1 to L3.
+-- The lines of a listing. docs/FORMAT.md, rules L1 to L3 and L8.
 use mathlib.Core.Bool.{Bool, true, false, cond}
 use mathlib.Core.List.{List, [], _∷_, _++_}
 use mathlib.Core.Option.{Option, none, some}
@@ -7,6 +7,8 @@ use lib.Dec.{ltb}
 use lib.IntN.{ℤ, pos, negsuc}
 use lib.ListN.{length}
 use Rattle.number.specs.Be.{bytesOf}
+use Rattle.calendar.specs.Date.{Said, gives, refused, calendarOf}
+use Rattle.calendar.specs.declared.Time.{Time}
 use Rattle.event.specs.Meaning.{Meaning, array, dictionary, close, boolean, bytes, date, integer, real, text, uid}
 
 -- how many decimal digits n takes, at least one; k is more than enough where n is below 10 ^ (k + 1)
@@ -112,6 +114,25 @@ unfoldable pub signed : ℤ → List ℕ
 signed (pos n) = plus n
 signed (negsuc k) = minus (k + 1)
 
+-- a field of a day and time in so many digits, with the mark that stands behind it
+unfoldable pub field : ℕ → ℕ → ℕ → List ℕ
+field places n mark = digitsOf places n ++ (mark ∷ [])
+
+unfoldable pub three : ℕ → ℕ → ℕ → ℕ → ℕ → ℕ → List ℕ
+three places a b c mark end = field places a mark ++ (field 2 b mark ++ field 2 c end)
+
+-- `2001-01-01T00:00:00Z` (docs/FORMAT.md, L8)
+unfoldable pub stamp : Time → List ℕ
+stamp t = three 4 (t .year) (t .month) (t .day) 45 84 ++ three 2 (t .hour) (t .minute) (t .second) 58 90
+
+-- a date that has a day and time, and one that is refused: its bits
+unfoldable pub dated : ℕ → Said Time → List ℕ
+dated b (gives t) = row word-date (32 ∷ stamp t) []
+dated b (refused number) = row word-date [] (bytesOf 8 b)
+
+unfoldable pub dateLine : ℕ → List ℕ
+dateLine b = dated b (calendarOf b)
+
 -- the line of an event
 unfoldable pub lineOf : Meaning → List ℕ
 lineOf (array n) = row word-array (lengthGiven n) []
@@ -119,7 +140,7 @@ lineOf (dictionary n) = row word-dict (lengthGiven n) []
 lineOf close = row word-close [] []
 lineOf (boolean b) = row (truth b) [] []
 lineOf (bytes s) = row word-data (plus (length s)) s
-lineOf (date b) = row word-date [] (bytesOf 8 b)
+lineOf (date b) = dateLine b
 lineOf (integer z) = row word-int (signed z) []
 lineOf (real b) = row word-real [] (bytesOf 8 b)
 lineOf (text s) = row word-str (plus (length s)) s

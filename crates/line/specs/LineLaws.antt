@@ -6,7 +6,8 @@ use native.Mathlib.Omega.{arith}
 use native.Mathlib.Numerals.{add-one}
 use borrow.Author.Tests.{ne-eqb}
 use lib.ListN.{length, length-append}
-use Rattle.line.specs.Line.{hex, tail, decimal, digitsOf, placesOf, plus, row, refusalLine}
+use Rattle.calendar.specs.declared.Time.{Time}
+use Rattle.line.specs.Line.{hex, tail, decimal, digitsOf, placesOf, field, three, stamp, plus, row, refusalLine}
 use Rattle.line.specs.Piece.{spaceOf}
 
 pub length-hex : (s : List ℕ) → length (hex s) ≡ 2 * length s
@@ -18,6 +19,18 @@ pub length-digits : (k n : ℕ) → length (digitsOf k n) ≡ k
 unfolding digitsOf
 length-digits zero n = refl
 length-digits (suc k) n = simp (length-append, length-digits k (n / 10), add-one)
+
+pub length-field : (k n mark : ℕ) → length (field k n mark) ≡ k + 1
+unfolding field
+length-field k n mark = simp (length-append, length-digits)
+
+pub length-three : (k a b c mark end : ℕ) → length (three k a b c mark end) ≡ k + 7
+unfolding three
+length-three k a b c mark end = simp (length-append, length-field) (omega arith)
+
+pub length-stamp : (t : Time) → length (stamp t) ≡ 20
+unfolding stamp
+length-stamp t = simp (length-append, length-three)
 
 pub length-decimal : (n : ℕ) → length (decimal n) ≡ placesOf 19 n
 unfolding decimal

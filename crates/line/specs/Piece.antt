@@ -1,19 +1,20 @@
 -- Pieces of a line in lent memory.
 use mathlib.Core.Bool.{Bool, true, false, cond}
-use mathlib.Core.List.{List, []}
+use mathlib.Core.List.{List, [], _∷_}
 use mathlib.Core.Path.{_≡_}
 use Prim.Native.Nat.{ℕ, _+_, _*_, _≤_, _<_}
 use lib.Dec.{eqb}
 use lib.ListN.{length}
 use lib.Seq.{sets}
-use Rattle.line.specs.Line.{plus, minus, placesOf}
+use Rattle.line.specs.Line.{plus, minus, stamp, placesOf}
 use Rattle.line.specs.declared.piece.Numeral.{Numeral}
-use Rattle.line.specs.declared.piece.Numeral.the-variants.{Nothing, Plus, Minus}
+use Rattle.line.specs.declared.piece.Numeral.the-variants.{Nothing, Plus, Minus, Stamp}
 
 unfoldable pub numeralOf : Numeral → List ℕ
 numeralOf Nothing = []
 numeralOf (Plus n) = plus n
 numeralOf (Minus n) = minus n
+numeralOf (Stamp t) = 32 ∷ stamp t
 
 -- vs stand in the memory from `at` on, which was `before` and is `after`; `end` is the place behind them
 pub record Written (before : List ℕ) (at : ℕ) (vs : List ℕ) (after : List ℕ) (end : ℕ) : Type 0 where

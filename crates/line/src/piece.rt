@@ -1,15 +1,17 @@
 // The pieces of a line: each is written from a place on, where there is room, and answers the place after it.
+use calendar::Time;
 ghost use mathlib.Core.Path.{_≡_};
 ghost use Prim.Native.Nat.{_+_, _≤_, _<_};
 ghost use lib.ListN.{length};
-ghost use Rattle.line.specs.Line.{decimal, hexDigit, hex, tail, digitsOf};
+ghost use Rattle.line.specs.Line.{decimal, hexDigit, hex, tail, digitsOf, field, three, stamp};
 ghost use Rattle.line.specs.Piece.{Written, numeralOf, Counted};
 
-// The number that follows a line's word.
+// What follows a line's word: nothing, a number, or a day and time.
 pub enum Numeral {
     Nothing,
     Plus(u64),
     Minus(u64),
+    Stamp(Time),
 }
 
 // Bytes as they are.
@@ -96,7 +98,54 @@ fn write_decimal(out: &mut [u8], at: usize, n: u64) -> usize
     write_digits(out, at, places_of(n), n)
 }
 
-// A space and the number, where there is one.
+// A field of a day and time, with the mark that stands behind it.
+fn write_field(out: &mut [u8], at: usize, places: usize, n: u32, mark: u8) -> usize
+    requires { ⌜ at + places < length (now out) ⌝ }
+    ensures { λ r. ⌜ Written (now (out .entry)) at (field places n mark) (now (out .exit)) r ⌝ }
+{
+    let mark_at = write_digits(out, at, places, n as u64);
+    out[mark_at] = mark;
+    mark_at + 1
+}
+
+// Three fields, a day or a time of day: the first may have more places, and another mark ends them.
+fn write_three(
+    out: &mut [u8],
+    at: usize,
+    places: usize,
+    first: u32,
+    second: u32,
+    third: u32,
+    mark: u8,
+    end: u8,
+) -> usize
+    requires { ⌜ at + places + 7 ≤ length (now out) ⌝ }
+    ensures { λ r. ⌜ Written (now (out .entry)) at (three places first second third mark end) (now (out .exit)) r ⌝ }
+{
+    let second_at = write_field(out, at, places, first, mark);
+    let third_at = write_field(out, second_at, 2, second, mark);
+    write_field(out, third_at, 2, third, end)
+}
+
+// `2001-01-01T00:00:00Z`.
+fn write_stamp(out: &mut [u8], at: usize, time: Time) -> usize
+    requires { ⌜ at + 20 ≤ length (now out) ⌝ }
+    ensures { λ r. ⌜ Written (now (out .entry)) at (stamp time) (now (out .exit)) r ⌝ }
+{
+    let clock_at = write_three(out, at, 4, time.year, time.month, time.day, b'-', b'T');
+    write_three(
+        out,
+        clock_at,
+        2,
+        time.hour,
+        time.minute,
+        time.second,
+        b':',
+        b'Z',
+    )
+}
+
+// A space and what follows the word, where there is something.
 pub(crate) fn write_numeral(out: &mut [u8], at: usize, number: Numeral) -> usize
     requires { ⌜ at + length (numeralOf number) ≤ length (now out) ⌝ }
     ensures { λ r. ⌜ Written (now (out .entry)) at (numeralOf number) (now (out .exit)) r ⌝ }
@@ -112,6 +161,10 @@ pub(crate) fn write_numeral(out: &mut [u8], at: usize, number: Numeral) -> usize
             out[at + 1] = b'-';
             write_decimal(out, at + 2, n)
         }
+        Numeral::Stamp(time) => {
+            out[at] = b' ';
+            write_stamp(out, at + 1, time)
+        }
     }
 }
 
@@ -124,5 +177,6 @@ pub(crate) fn numeral_length(number: Numeral) -> usize
         Numeral::Nothing => 0,
         Numeral::Plus(n) => 1 + places_of(n),
         Numeral::Minus(n) => 2 + places_of(n),
+        Numeral::Stamp(_) => 21,
     }
 }

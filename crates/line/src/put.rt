@@ -4,6 +4,8 @@ use crate::piece::numeral_length;
 use crate::piece::write_bytes;
 use crate::piece::write_numeral;
 use crate::piece::write_tail;
+use calendar::Dated;
+use calendar::calendar_of;
 use event::Event;
 use event::Integer;
 use event::Length;
@@ -16,7 +18,7 @@ ghost use mathlib.Core.List.{[]};
 ghost use lib.ListN.{length};
 ghost use Rattle.number.specs.Be.{bytesOf};
 ghost use Rattle.event.specs.Meaning.{meaningOf, givenOf, valueOf};
-ghost use Rattle.line.specs.Line.{row, lengthGiven, signed, lineOf, refusalLine};
+ghost use Rattle.line.specs.Line.{row, lengthGiven, signed, dateLine, lineOf, refusalLine};
 ghost use Rattle.line.specs.Piece.{Written, numeralOf, spaceOf, lineSize, Room};
 ghost use Rattle.line.specs.Put.{putEnd, putInto, fixedLine};
 
@@ -50,7 +52,7 @@ pub fn put_event(out: &mut [u8], at: usize, event: Event, bytes: &[u8]) -> Put
             }
         }
         Event::Data => put_row(out, at, b"data", Numeral::Plus(bytes.len() as u64), bytes),
-        Event::Date(bits) => put_bits(out, at, b"date", bits),
+        Event::Date(bits) => put_date(out, at, bits),
         Event::Integer(integer) => put_row(out, at, b"int", value_of(integer), b""),
         Event::Real(x) => put_bits(out, at, b"real", float_bits(x)),
         Event::Nan(bits) => put_bits(out, at, b"real", bits),
@@ -82,6 +84,17 @@ pub fn put_fixed(out: &mut [u8], at: usize, fixed: Fixed) -> Put
         Fixed::End => put_row(out, at, b"end", Numeral::Nothing, b""),
         Fixed::Stopped => put_row(out, at, b"stopped", Numeral::Nothing, b""),
     }
+}
+
+// A date as a day and time, or where it has none as its bits.
+fn put_date(out: &mut [u8], at: usize, bits: u64) -> Put
+    ensures { λ r. ⌜ r ≡ putEnd (now (out .entry)) at (dateLine bits) ⌝ }
+    ensures { λ _. ⌜ now (out .exit) ≡ putInto (now (out .entry)) at (dateLine bits) ⌝ }
+{
+    let Dated::At(time) = calendar_of(bits) else {
+        return put_bits(out, at, b"date", bits);
+    };
+    put_row(out, at, b"date", Numeral::Stamp(time), b"")
 }
 
 // A word and 16 hex digits.

@@ -1,10 +1,11 @@
-// Lists files of data/, one behind the other: P10 of docs/FORMAT.md, files that are refused, input as long as may be and a byte longer, and
+// Lists files of data/, one behind the other: P10 of docs/FORMAT.md, dates, files that are refused, input as long as may be and a byte longer, and
 // listings that are as long as may be, which are counted and not shown.
 use libc::STDOUT_FILENO;
 use say::list::list_input;
 
 fn main() {
     show(b"p10");
+    show(b"dates");
     show(b"magic");
     show(b"short");
     show(b"sizes");

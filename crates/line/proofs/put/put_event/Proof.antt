@@ -84,11 +84,8 @@ put-row-requires-6 c κs = search needs
 enum-known-event-4 : tie.Need-enum-known-event-4
 enum-known-event-4 c = search needs
 
-slice-aggregate-put-bits : tie.Need-slice-aggregate-put-bits
-slice-aggregate-put-bits c = refl
-
-put-bits-requires : tie.Need-put-bits-requires
-put-bits-requires c κs = search needs
+put-date-requires : tie.Need-put-date-requires
+put-date-requires c κs = search needs
 
 enum-known-event-5 : tie.Need-enum-known-event-5
 enum-known-event-5 c = search needs
@@ -108,23 +105,23 @@ put-row-requires-7 c κs = search needs
 enum-known-event-6 : tie.Need-enum-known-event-6
 enum-known-event-6 c = search needs
 
-slice-aggregate-put-bits-2 : tie.Need-slice-aggregate-put-bits-2
-slice-aggregate-put-bits-2 c = refl
+slice-aggregate-put-bits : tie.Need-slice-aggregate-put-bits
+slice-aggregate-put-bits c = refl
 
 float-bits-requires : tie.Need-float-bits-requires
 float-bits-requires c κs = search needs
 
-put-bits-requires-2 : tie.Need-put-bits-requires-2
-put-bits-requires-2 c κs = search needs
+put-bits-requires : tie.Need-put-bits-requires
+put-bits-requires c κs = search needs
 
 enum-known-event-7 : tie.Need-enum-known-event-7
 enum-known-event-7 c = search needs
 
-slice-aggregate-put-bits-3 : tie.Need-slice-aggregate-put-bits-3
-slice-aggregate-put-bits-3 c = refl
+slice-aggregate-put-bits-2 : tie.Need-slice-aggregate-put-bits-2
+slice-aggregate-put-bits-2 c = refl
 
-put-bits-requires-3 : tie.Need-put-bits-requires-3
-put-bits-requires-3 c κs = search needs
+put-bits-requires-2 : tie.Need-put-bits-requires-2
+put-bits-requires-2 c κs = search needs
 
 enum-told-3 : tie.Need-enum-told-3
 enum-told-3 c = search needs
@@ -190,11 +187,11 @@ unfolding lineOf meaningOf numeralOf
 returns-6 c = rw (c .before .before .before .before .before .enum-told2 .given .1) (c .before .before .put-row6 .ensures)
 
 same-length-7 : tie.Need-same-length-7
-same-length-7 c = ap length (c .before .before .put-bits .ensures .1) ∙ length-put _ _ _
+same-length-7 c = ap length (c .before .before .put-date .ensures .1) ∙ length-put _ _ _
 
 returns-7 : tie.Need-returns-7
 unfolding lineOf meaningOf
-returns-7 c = rw (c .before .before .before .before .before .before .event4 .given .1) (c .before .before .put-bits .ensures)
+returns-7 c = rw (c .before .before .before .before .before .event4 .given .1) (c .before .before .put-date .ensures)
 
 same-length-8 : tie.Need-same-length-8
 same-length-8 c = ap length (c .before .before .put-row7 .ensures .1) ∙ length-put _ _ _
@@ -204,18 +201,18 @@ unfolding lineOf meaningOf
 returns-8 c = rw (c .before .before .before .before .before .before .before .before .event5 .given .1, ← c .before .before .before .before .value-of .ensures) (c .before .before .put-row7 .ensures)
 
 same-length-9 : tie.Need-same-length-9
-same-length-9 c = ap length (c .before .before .put-bits2 .ensures .1) ∙ length-put _ _ _
+same-length-9 c = ap length (c .before .before .put-bits .ensures .1) ∙ length-put _ _ _
 
 returns-9 : tie.Need-returns-9
 unfolding lineOf meaningOf
-returns-9 c = rw (c .before .before .before .before .before .before .before .event6 .given .1, ← c .before .before .before .float-bits .ensures) (c .before .before .put-bits2 .ensures)
+returns-9 c = rw (c .before .before .before .before .before .before .before .event6 .given .1, ← c .before .before .before .float-bits .ensures) (c .before .before .put-bits .ensures)
 
 same-length-10 : tie.Need-same-length-10
-same-length-10 c = ap length (c .before .before .put-bits3 .ensures .1) ∙ length-put _ _ _
+same-length-10 c = ap length (c .before .before .put-bits2 .ensures .1) ∙ length-put _ _ _
 
 returns-10 : tie.Need-returns-10
 unfolding lineOf meaningOf
-returns-10 c = rw (c .before .before .before .before .before .before .event7 .given .1) (c .before .before .put-bits3 .ensures)
+returns-10 c = rw (c .before .before .before .before .before .before .event7 .given .1) (c .before .before .put-bits2 .ensures)
 
 same-length-11 : tie.Need-same-length-11
 same-length-11 c = ap length (c .before .before .put-row8 .ensures .1) ∙ length-put _ _ _
@@ -260,20 +257,19 @@ put-event-spec =
     slice-aggregate-put-row-11
     put-row-requires-6
     enum-known-event-4
-    slice-aggregate-put-bits
-    put-bits-requires
+    put-date-requires
     enum-known-event-5
     slice-aggregate-put-row-12
     value-of-requires
     slice-aggregate-put-row-13
     put-row-requires-7
     enum-known-event-6
-    slice-aggregate-put-bits-2
+    slice-aggregate-put-bits
     float-bits-requires
-    put-bits-requires-2
+    put-bits-requires
     enum-known-event-7
-    slice-aggregate-put-bits-3
-    put-bits-requires-3
+    slice-aggregate-put-bits-2
+    put-bits-requires-2
     enum-told-3
     slice-aggregate-put-row-14
     put-row-requires-8
