@@ -50,7 +50,14 @@ fn inputs() -> Vec<(&'static str, Vec<u8>)> {
         ("arrays 64 deep", nested(64)),
         ("2,000 small dictionaries", dictionaries()),
         ("20 UTF-16 texts of 5,000 units", wide_texts()),
-        ("10 ASCII texts of 100,000", long_texts()),
+        ("10,000 ASCII texts of 8", texts(ASCII, 8, 10_000)),
+        ("10,000 ASCII texts of 16", texts(ASCII, 16, 10_000)),
+        ("10,000 ASCII texts of 64", texts(ASCII, 64, 10_000)),
+        ("1,000 ASCII texts of 1,000", texts(ASCII, 1_000, 1_000)),
+        ("10 ASCII texts of 100,000", texts(ASCII, 100_000, 10)),
+        ("10,000 texts of 20, half ASCII", texts(HALF, 20, 10_000)),
+        ("1,000 texts of 1,000, half ASCII", texts(HALF, 1_000, 1_000)),
+        ("1,000 texts of 1,000, few accents", texts(FEW, 1_000, 1_000)),
         ("one data of 10,000,000", one_data()),
     ]
 }
@@ -101,13 +108,18 @@ fn wide_texts() -> Vec<u8> {
     list_of((0..20).map(|_| text16(&units.repeat(1_000))).collect(), 4)
 }
 
-fn long_texts() -> Vec<u8> {
-    list_of(
-        (0..10)
-            .map(|_| text8(&b"plain text ".repeat(9_091)))
-            .collect(),
-        4,
-    )
+const ASCII: &str = "plain text ";
+/// Six bytes of twelve are ASCII.
+const HALF: &str = "hold \u{4fdd}\u{5168} ";
+/// One accent in some sixty bytes.
+const FEW: &str = "die Akte liegt beim Gericht, die Frist l\u{e4}uft am Montag ab; ";
+
+/// So many equal texts of a sample over and over, each of so many bytes or a few less, where the next sequence would not fit.
+fn texts(sample: &str, bytes: usize, count: usize) -> Vec<u8> {
+    let mut text = sample.repeat(bytes / sample.len() + 1);
+    let end = (0..=bytes).rev().find(|end| text.is_char_boundary(*end));
+    text.truncate(end.unwrap_or(0));
+    list_of((0..count).map(|_| text8(text.as_bytes())).collect(), 4)
 }
 
 fn one_data() -> Vec<u8> {

@@ -34,11 +34,12 @@ fn main() -> ExitCode {
         return ExitCode::from(2);
     };
     let started = Instant::now();
-    let groups: [(&str, fn(&mut Judge, &Options)); 9] = [
+    let groups: [(&str, fn(&mut Judge, &Options)); 10] = [
         ("bytes, 0 to 3, all", short_bytes),
         ("bytes, 4, a first one and three later ones", later_bytes),
         ("bytes, 4 and 5, about the limits", limit_bytes),
         ("ASCII with a byte in its midst", ascii_runs),
+        ("ASCII about the lengths of its steps", ascii_steps),
         ("units, 0 and 1, all, and odd bytes", short_units),
         ("units, 2, a surrogate first, all", surrogate_pairs),
         ("units, 2 to 4, about the limits", limit_units),
@@ -124,6 +125,28 @@ fn ascii_runs(judge: &mut Judge, _: &Options) {
             }
             for text in longer {
                 judge.utf8(&[&run[..at], text.as_bytes(), &run[at..]].concat());
+            }
+        }
+    }
+}
+
+/// Runs about one, two and three steps of 128 bytes, with a byte about a limit or a longer sequence at every place; the longer sequence
+/// also once more some bytes behind itself, so that the run between the two has every length about the steps of eight.
+fn ascii_steps(judge: &mut Judge, _: &Options) {
+    let accent = "\u{e9}".as_bytes();
+    for length in [126..=138, 254..=266, 383..=393].into_iter().flatten() {
+        let run: Vec<u8> = (0..length).map(|at| (at * 5 % 0x80) as u8).collect();
+        judge.utf8(&run);
+        for at in 0..run.len() {
+            let mut changed = run.clone();
+            for byte in BYTES {
+                changed[at] = byte;
+                judge.utf8(&changed);
+            }
+            let one = [&run[..at], accent, &run[at..]].concat();
+            judge.utf8(&one);
+            for behind in (at + 2..one.len().min(at + 50)).chain([one.len()]) {
+                judge.utf8(&[&one[..behind], accent, &one[behind..]].concat());
             }
         }
     }

@@ -1,6 +1,6 @@
 -- The loop that writes a text: what is written so far, with what is left behind it, is the whole text.
 use mathlib.Core.Bool.{Bool, true}
-use mathlib.Core.Path.{_≡_, refl, sym, _∙_}
+use mathlib.Core.Path.{_≡_, refl, sym, ap, _∙_}
 use mathlib.Core.List.{List, [], _∷_, _++_}
 use Prim.Native.Nat.{ℕ, suc, _+_, _≤_}
 use native.Mathlib.Nat.{add-zero, add-suc, suc-add}
@@ -40,6 +40,10 @@ module _ (good : List ℕ → Bool) (text : List ℕ → List ℕ) where
         room = rw (length-sets out at p) (omega (arith, size, w .room));
         same = sym (sets-append p (text (drop j s)) out at) ∙ rw (← e) (w .same);
       }
+
+    -- stores leave the memory as long as it was
+    pub writing-length : length out ≡ length out₀
+    writing-length = sym (length-sets out at (text (drop i s))) ∙ ap length (w .same) ∙ length-sets out₀ 0 (text s)
 
     -- nothing is left
     pub writing-end : length s ≤ i → text [] ≡ [] → out ≡ sets out₀ 0 (text s)

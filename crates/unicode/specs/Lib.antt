@@ -7,6 +7,8 @@ pub mod ScalarLaws
 pub mod Utf8Laws
 pub mod Utf8Bits
 pub mod Utf8Walk
+pub mod Plain
+pub mod PlainLaws
 pub mod Utf16
 pub mod Utf16At
 pub mod Utf16Laws

@@ -1,15 +1,15 @@
 -- The walk of the check over UTF-8: what its locals say of the ranges that are still to come.
-use mathlib.Core.Bool.{true, false, and-false}
-use mathlib.Core.Path.{_≡_, refl, sym, _∙_}
-use mathlib.Core.List.{List, [], _∷_, _++_}
+use mathlib.Core.Bool.{false, and-false}
+use mathlib.Core.Path.{_≡_, refl, sym}
+use mathlib.Core.List.{List, [], _∷_}
 use mathlib.Core.Option.{Option, none, some}
 use Prim.Native.Nat.{ℕ, zero, suc, _-_, _<_, _≤_}
 use native.Mathlib.Omega.{arith}
 use lib.ListN.{replicate}
-use lib.Dec.{leb, eqb}
-use borrow.Author.Tests.{le-leb, lt-leb, ne-eqb}
-use Rattle.unicode.specs.Unicode.{Range, _to_, within, table, rowOf, wellFormed, isAscii}
-use Rattle.unicode.specs.Utf8Laws.{first-in, first-out, next-in, next-out, ascii-row, ascii-cons}
+use lib.Dec.{leb}
+use borrow.Author.Tests.{le-leb, lt-leb}
+use Rattle.unicode.specs.Unicode.{Range, _to_, within, table, rowOf, wellFormed, isUtf8}
+use Rattle.unicode.specs.Utf8Laws.{first-in, first-out, next-in, next-out}
 use Rattle.unicode.specs.declared.utf8.Lead.{Lead}
 use Rattle.unicode.specs.declared.utf8.Lead.the-variants.{More, Never}
 
@@ -23,25 +23,15 @@ unfoldable pub rangesAfter : Lead → Option (List Range)
 rangesAfter (More left low high) = some (rangesOf left low high)
 rangesAfter Never = none
 
--- where no bytes are to come, a byte begins a sequence: an ASCII byte is one by itself
-pub walk-ascii : (left low high b : ℕ) (s : List ℕ) → left ≡ 0 → b < 0x80 → wellFormed (rangesOf left low high) (b ∷ s) ≡ wellFormed (rangesOf left low high) s
-unfolding rangesOf
-walk-ascii left low high b s e h = rw e (first-in b s (ascii-row b h))
-
--- so a run of them changes nothing, however many are stepped over at once
-pub walk-run : (left low high : ℕ) (a s : List ℕ) → left ≡ 0 → isAscii a ≡ true → wellFormed (rangesOf left low high) (a ++ s) ≡ wellFormed (rangesOf left low high) s
-walk-run left low high [] s e h = refl
-walk-run left low high (b ∷ a) s e h = let k = ascii-cons b a h in walk-ascii left low high b (a ++ s) e (k .0) ∙ walk-run left low high a s e (k .1)
-
--- any other has the ranges of its row
-pub walk-lead : (left low high b : ℕ) (s : List ℕ) (count from upto : ℕ) → left ≡ 0 → rangesAfter (More count from upto) ≡ rowOf table b → wellFormed (rangesOf left low high) (b ∷ s) ≡ wellFormed (rangesOf count from upto) s
-unfolding rangesOf rangesAfter
-walk-lead left low high b s count from upto e r = rw e (first-in b s (sym r))
+-- a first byte has the ranges of its row to follow
+pub walk-lead : (b : ℕ) (s : List ℕ) (count from upto : ℕ) → rangesAfter (More count from upto) ≡ rowOf table b → isUtf8 (b ∷ s) ≡ wellFormed (rangesOf count from upto) s
+unfolding rangesAfter isUtf8
+walk-lead b s count from upto r = first-in b s (sym r)
 
 -- or no row
-pub walk-never : (left low high b : ℕ) (s : List ℕ) → left ≡ 0 → rangesAfter Never ≡ rowOf table b → wellFormed (rangesOf left low high) (b ∷ s) ≡ false
-unfolding rangesOf rangesAfter
-walk-never left low high b s e r = rw e (first-out b s (sym r))
+pub walk-never : (b : ℕ) (s : List ℕ) → rangesAfter Never ≡ rowOf table b → isUtf8 (b ∷ s) ≡ false
+unfolding rangesAfter isUtf8
+walk-never b s r = first-out b s (sym r)
 
 -- after its next byte a sequence has only bytes from 80 to BF
 ranges-later : (left : ℕ) → rangesOf left 0x80 0xBF ≡ replicate left (0x80 to 0xBF)
@@ -68,8 +58,13 @@ unfolding rangesOf within
 walk-above zero low high b s h g = absurd (omega arith)
 walk-above (suc k) low high b s h g = next-out (low to high) _ b s (rw (lt-leb b high g) (and-false (leb low b)))
 
--- the bytes may end where no more are to come
-pub walk-ends : (left low high : ℕ) → wellFormed (rangesOf left low high) [] ≡ eqb left 0
+-- the bytes may not end where more are to come
+pub walk-cut : (left low high : ℕ) → 0 < left → wellFormed (rangesOf left low high) [] ≡ false
 unfolding rangesOf wellFormed
-walk-ends zero low high = refl
-walk-ends (suc k) low high = sym (ne-eqb (suc k) 0 (omega arith))
+walk-cut zero low high h = absurd (omega arith)
+walk-cut (suc k) low high h = refl
+
+-- where no more are to come, text follows
+pub walk-whole : (left low high : ℕ) (s : List ℕ) → left ≡ 0 → wellFormed (rangesOf left low high) s ≡ isUtf8 s
+unfolding rangesOf isUtf8
+walk-whole left low high s e = rw e

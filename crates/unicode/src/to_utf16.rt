@@ -1,6 +1,6 @@
 // UTF-8 changed to UTF-16 of big-endian byte pairs: measured, then written.
 use crate::changed::Changed;
-use crate::utf8::is_utf8;
+use crate::utf8::check_utf8;
 ghost use mathlib.Core.Path.{_≡_};
 ghost use mathlib.Core.Bool.{true};
 ghost use mathlib.Core.List.{[], _∷_};
@@ -24,11 +24,11 @@ struct Scalar {
     next: usize,
 }
 
-// The number of units of a text.
+// The number of units of a text. What is to be changed is seldom a few ASCII bytes, so it goes straight to the check.
 pub fn utf16_units(s: &[u8]) -> Units
     ensures { λ r. ⌜ r ≡ utf16UnitsOf (now (s .entry)) ⌝ }
 {
-    if is_utf8(s) {
+    if check_utf8(s) {
         return Units::Count(units_in(s));
     }
     Units::NotUtf8

@@ -77,7 +77,7 @@ pub fn utf16_to_utf8(s: &[u8], out: &mut [u8]) -> Changed
     Changed::Written(bytes)
 }
 
-// Each scalar value of a text in turn, where there is room for all.
+// Each scalar value of a text in turn, where there is room for all. ASCII is one byte, which is stored here and not by a call.
 fn write_utf8(s: &[u8], out: &mut [u8])
     requires { ⌜ (isUtf16 (now s) ≡ true) × (length (toUtf8 (now s)) ≤ length (now out)) ⌝ }
     ensures { λ _. ⌜ now (out .exit) ≡ sets (now (out .entry)) 0 (toUtf8 (now (s .entry))) ⌝ }
@@ -86,6 +86,12 @@ fn write_utf8(s: &[u8], out: &mut [u8])
     let mut at: usize = 0;
     while i < s.len() {
         let v = scalar_at(s, i);
+        if v < 0x80 {
+            out[at] = v as u8;
+            at += 1;
+            i += 2;
+            continue;
+        }
         at = put_scalar(out, at, v);
         if v < 0x10000 {
             i += 2;

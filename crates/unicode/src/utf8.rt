@@ -1,8 +1,13 @@
 // Whether bytes are UTF-8, and whether they are ASCII.
+use crate::plain::past_bytes;
+use crate::plain::past_plain;
+use crate::plain::past_run;
+use crate::plain::past_steps;
 ghost use mathlib.Core.Path.{_≡_};
 ghost use Prim.Native.Nat.{_≤_};
 ghost use Rattle.unicode.specs.Unicode.{isUtf8, isAscii, rowOf, table};
 ghost use Rattle.unicode.specs.Utf8Walk.{rangesAfter};
+ghost use Rattle.unicode.specs.Plain.{PlainTo};
 
 // What may follow a first byte: how many bytes, and the range of the next; those after it are 80 to BF.
 enum Lead {
@@ -28,53 +33,68 @@ fn lead_of(b: u8) -> Lead
     }
 }
 
-// Whether the bytes are well-formed UTF-8.
+// Whether the bytes are well-formed UTF-8. It sees a few ASCII bytes itself and is small, so that the compiler puts it into each caller.
 pub fn is_utf8(s: &[u8]) -> bool
     ensures { λ r. ⌜ r ≡ isUtf8 (now (s .entry)) ⌝ }
 {
-    // the bytes still to come of a sequence, and the range of the next one
-    let mut left: u8 = 0;
-    let mut low: u8 = 0x80;
-    let mut high: u8 = 0xBF;
-    let mut i: usize = 0;
+    if s.len() < 8 {
+        if past_bytes(s, 0) == s.len() {
+            return true;
+        }
+    }
+    check_utf8(s)
+}
+
+// The same: nearly all texts are ASCII, so it begins with steps over many bytes. With two callers it stays a function of its own.
+pub(crate) fn check_utf8(s: &[u8]) -> bool
+    ensures { λ r. ⌜ r ≡ isUtf8 (now (s .entry)) ⌝ }
+{
+    walk_utf8(s, past_plain(s))
+}
+
+// The walk from a place on before which all is ASCII: a run of ASCII, or a sequence of more bytes, a turn.
+fn walk_utf8(s: &[u8], from: usize) -> bool
+    requires { ⌜ PlainTo (now s) from ⌝ }
+    ensures { λ r. ⌜ r ≡ isUtf8 (now (s .entry)) ⌝ }
+{
+    let mut i: usize = from;
     while i < s.len() {
         let b = s[i];
         i += 1;
-        if left == 0 {
-            if b < 0x80 {
-                continue;
-            }
-            let Lead::More(count, from, to) = lead_of(b) else {
-                return false;
-            };
-            left = count;
-            low = from;
-            high = to;
+        if b < 0x80 {
+            i = past_run(s, i);
             continue;
         }
-        if b < low {
+        let Lead::More(count, least, most) = lead_of(b) else {
             return false;
+        };
+        // the bytes still to come of the sequence, and the range of the next one
+        let mut left = count;
+        let mut low = least;
+        let mut high = most;
+        while 0 < left {
+            if s.len() <= i {
+                return false;
+            }
+            let next = s[i];
+            i += 1;
+            if next < low {
+                return false;
+            }
+            if high < next {
+                return false;
+            }
+            left -= 1;
+            low = 0x80;
+            high = 0xBF;
         }
-        if high < b {
-            return false;
-        }
-        left -= 1;
-        low = 0x80;
-        high = 0xBF;
     }
-    left == 0
+    true
 }
 
 // Whether every byte is below 80.
 pub fn is_ascii(s: &[u8]) -> bool
     ensures { λ r. ⌜ r ≡ isAscii (now (s .entry)) ⌝ }
 {
-    let mut i: usize = 0;
-    while i < s.len() {
-        if 0x80 <= s[i] {
-            return false;
-        }
-        i += 1;
-    }
-    true
+    past_bytes(s, past_steps(s, past_steps(s, 0, 128), 8)) == s.len()
 }

@@ -1,0 +1,27 @@
+-- Runs of ASCII: how long the one at the start is, a place that only ASCII precedes, and eight bytes as one number.
+use mathlib.Core.Bool.{true, cond}
+use mathlib.Core.Path.{_≡_}
+use mathlib.Core.List.{List, [], _∷_}
+use Prim.Native.Nat.{ℕ, zero, suc, _+_, _*_, _≤_}
+use lib.Dec.{ltb}
+use lib.ListN.{length, take}
+use Rattle.unicode.specs.Unicode.{isAscii}
+
+-- how many bytes at the start are ASCII
+unfoldable pub asciiRun : List ℕ → ℕ
+asciiRun [] = 0
+asciiRun (b ∷ s) = cond (ltb b 0x80) (suc (asciiRun s)) 0
+
+-- all bytes before a place are ASCII
+abbrev pub PlainTo : List ℕ → ℕ → Type 0
+PlainTo s i = (i ≤ length s) × (isAscii (take i s) ≡ true)
+
+-- the number of bytes, the first one lowest
+unfoldable pub littleOf : List ℕ → ℕ
+littleOf [] = 0
+littleOf (b ∷ s) = littleOf s * 256 + b
+
+-- the top bits of so many bytes
+unfoldable pub topsOf : ℕ → ℕ
+topsOf zero = 0
+topsOf (suc n) = topsOf n * 256 + 0x80
