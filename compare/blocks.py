@@ -3,7 +3,8 @@
 
 A block begins with `events`. Lines are compared one by one: events and the numbers of refusals always, places except
 where the oracle prints `-`. A block that the oracle ends with `outside ..` is compared up to that line; there ours must
-go on with a date, or with `refused 15` for the 65th open container. Exit code 1 on a difference."""
+go on with a date, with `refused 15` for the 65th open container, or with the refusal that the line names. Exit code 1 on a
+difference."""
 import sys
 
 SHOWN = 5
@@ -39,6 +40,8 @@ def first_difference(theirs, ours):
             return at, False
         if line == "outside depth":
             return (None if ours[at].startswith("refused 15 at ") else at), False
+        if line.startswith("outside ") and " at " in line:
+            return (None if ours[at] == line.replace("outside", "refused") else at), False
         if line == "outside date":
             return (None if ours[at].startswith("date ") else at), False
         if not same_line(line, ours[at]):

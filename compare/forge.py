@@ -100,7 +100,11 @@ def record_there(rng, file, offset):
     if offset < len(file) - 32:
         if file[offset] >> 4 in (0xA, 0xD):
             name = rng.choice(["end", "sized array" if file[offset] >> 4 == 0xA else "sized dict"])
-            return model.KINDS[name], 0 if name == "end" else model.head(file, offset)[0]
+            try:
+                length, _ = model.head(file, offset)
+            except model.Refused:
+                length = 0
+            return model.KINDS[name], 0 if name == "end" else length
         try:
             found = model.object_at(file, 1, offset)
         except model.Refused:

@@ -58,14 +58,16 @@ def utf16_text(content):
 
 
 def head(file, offset):
-    """The length that a head gives and where the content begins: the low nibble, or if it is 15, the next byte's low two bits
-    say 1, 2, 4 or 8 bytes of length. A head that runs past the file's end is 2."""
+    """The length that a head gives and where the content begins: the low nibble, or if it is 15, the next byte is 10, 11, 12 or
+    13 for 1, 2, 4 or 8 bytes of length; any other is 31. A head that runs past the file's end is 2."""
     low = file[offset] & 15
     if low != 15:
         return low, offset + 1
     size = number_at(file, offset + 1, 1)
     if size is None:
         raise Refused(2, offset)
+    if not 0x10 <= size <= 0x13:
+        raise Refused(31, offset)
     width = 1 << (size & 3)
     length = number_at(file, offset + 2, width)
     if length is None:
@@ -275,7 +277,11 @@ def gives(file, kind, value, offset):
         high = file[offset] >> 4
         if high not in (0xA, 0xD):
             return False
-        return kind == KINDS["end"] or (high == 0xA) == (kind == KINDS["sized array"]) and head(file, offset)[0] == value
+        try:
+            length, _ = head(file, offset)
+        except Refused:
+            return False
+        return kind == KINDS["end"] or (high == 0xA) == (kind == KINDS["sized array"]) and length == value
     try:
         return object_at(file, 1, offset) == ("scalar", said(kind, value))
     except Refused:

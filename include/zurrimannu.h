@@ -21,7 +21,7 @@
 extern "C" {
 #endif
 
-/* The numbers of refusals, of the reader (1 to 17), the event tape (20, 27), the writer (1, 15, 20 to 26) and the calendar (30). */
+/* The numbers of refusals, of the reader (1 to 17, 31), the event tape (20, 27), the writer (1, 15, 20 to 26) and the calendar (30). */
 enum {
     ZM_TOO_LONG = 1,
     ZM_END_OF_INPUT = 2,
@@ -49,6 +49,7 @@ enum {
     ZM_FILE_TOO_LONG = 26,
     ZM_NO_ROOM_FOR_TAPE = 27,
     ZM_NO_SUCH_TIME = 30,
+    ZM_INVALID_OBJECT_LENGTH = 31,
 };
 
 /* --- text ------------------------------------------------------------------------------------------ */

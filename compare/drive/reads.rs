@@ -1,5 +1,6 @@
 //! The proved reader and the crate's, on the same files, in one process. See compare/README.md.
 
+mod added;
 mod families;
 mod files;
 mod hex;
@@ -10,13 +11,13 @@ mod tape;
 mod theirs;
 
 use std::{
-    cell::Cell,
     env,
     panic::{self, AssertUnwindSafe},
     process::ExitCode,
     time::Instant,
 };
 
+use added::Seeks;
 use families::{marker_file, sized_file, Stock, FAMILIES};
 use random::Random;
 use theirs::{Answer, Watched};
@@ -159,6 +160,7 @@ struct Judge {
     places: u64,
     dates: u64,
     depths: u64,
+    added: u64,
     differences: u64,
     smallest: Option<(Vec<u8>, String)>,
 }
@@ -168,6 +170,7 @@ enum Outcome {
     Ended(u8, bool),
     Date,
     Depth,
+    Added,
 }
 
 impl Judge {
@@ -182,6 +185,7 @@ impl Judge {
             places: 0,
             dates: 0,
             depths: 0,
+            added: 0,
             differences: 0,
             smallest: None,
         }
@@ -201,6 +205,7 @@ impl Judge {
             }
             Ok(Outcome::Date) => self.dates += 1,
             Ok(Outcome::Depth) => self.depths += 1,
+            Ok(Outcome::Added) => self.added += 1,
             Err(difference) => self.differs(family, file, difference),
         }
     }
@@ -208,7 +213,7 @@ impl Judge {
     fn compare(&mut self, file: &[u8]) -> Result<Outcome, String> {
         let got = ours::transcribe(file, &mut self.scratch, &mut self.tape, CAP);
         let tape = self.tape.get(..got.held).ok_or("more is held than lent")?;
-        let seeks = Cell::new(0);
+        let seeks = Seeks::default();
         let mut reader = Watched::new(file, &seeks);
         let mut at = 0;
         for _ in 0..CAP {
@@ -225,6 +230,9 @@ impl Judge {
                     (tape::Item::Date(_), _) => return Ok(Outcome::Date),
                     (item, _) => return Err(format!("event {item:?}, the crate's a date")),
                 },
+                Answer::Added(number, offset) => {
+                    return ends(&got, at, number.into(), 0, Some(offset)).map(|_| Outcome::Added)
+                }
                 Answer::Depth => return ends(&got, at, 15, 0, None).map(|_| Outcome::Depth),
                 Answer::End => return ends(&got, at, ours::ENDED, 0, Some(0)),
                 Answer::Refused(number, marker, place) => {
@@ -269,8 +277,8 @@ impl Judge {
         }
         println!("{:>10} of these with a place that is compared", self.places);
         println!(
-            "outside: {} at a date, {} at the 65th open container",
-            self.dates, self.depths
+            "outside: {} at a date, {} at the 65th open container, {} at an odd length byte",
+            self.dates, self.depths, self.added
         );
         if let Some((file, difference)) = &self.smallest {
             println!(

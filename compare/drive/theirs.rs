@@ -1,10 +1,8 @@
 //! The crate's binary reader over one file in memory, with what document 01 needs to know beside its answers.
 
-use std::{
-    cell::Cell,
-    io::{self, Cursor, Read, Seek, SeekFrom},
-};
+use std::io::Cursor;
 
+use crate::added::{self, CountedSeeks, Seeks, Sought};
 use plist::{
     stream::{BinaryReader, Event},
     Refusal,
@@ -22,33 +20,45 @@ pub enum Answer {
     Date,
     /// The 65th open container, which document 01 refuses.
     Depth,
+    /// An object that document 02 refuses, with our number and its offset.
+    Added(u8, u64),
     /// An error that the reader should not be able to give.
     Unforeseen(String),
 }
 
 pub struct Watched<'a> {
+    file: &'a [u8],
     reader: BinaryReader<CountedSeeks<'a>>,
-    seeks: &'a Cell<u64>,
+    seeks: &'a Seeks,
+    sought: Sought,
     open: usize,
     /// The object last fetched came from the reader's cache, so that its place is an older one.
     from_cache: bool,
 }
 
 impl<'a> Watched<'a> {
-    pub fn new(file: &'a [u8], seeks: &'a Cell<u64>) -> Self {
+    pub fn new(file: &'a [u8], seeks: &'a Seeks) -> Self {
         let cursor = Cursor::new(file);
         Watched {
+            file,
             reader: BinaryReader::new(CountedSeeks { cursor, seeks }),
             seeks,
+            sought: Sought::default(),
             open: 0,
             from_cache: false,
         }
     }
 
     pub fn next(&mut self) -> Answer {
-        let seeks_before = self.seeks.get();
+        let seeks_before = self.seeks.count.get();
         let answer = self.reader.next();
-        let sought = self.seeks.get() != seeks_before;
+        let made = self.seeks.count.get() - seeks_before;
+        let sought = made != 0;
+        if let Some(offset) = self.sought.object(made, self.seeks) {
+            if let Some(number) = added::refusal(self.file, offset) {
+                return Answer::Added(number, offset as u64);
+            }
+        }
         match answer {
             None => Answer::End,
             Some(Err(error)) => {
@@ -86,24 +96,5 @@ impl<'a> Watched<'a> {
             }
             other => Answer::Unforeseen(format!("{other:?}")),
         }
-    }
-}
-
-/// A file in memory that counts how often its reader seeks.
-struct CountedSeeks<'a> {
-    cursor: Cursor<&'a [u8]>,
-    seeks: &'a Cell<u64>,
-}
-
-impl Read for CountedSeeks<'_> {
-    fn read(&mut self, buffer: &mut [u8]) -> io::Result<usize> {
-        self.cursor.read(buffer)
-    }
-}
-
-impl Seek for CountedSeeks<'_> {
-    fn seek(&mut self, to: SeekFrom) -> io::Result<u64> {
-        self.seeks.set(self.seeks.get() + 1);
-        self.cursor.seek(to)
     }
 }

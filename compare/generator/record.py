@@ -14,11 +14,14 @@ import re
 import subprocess
 import sys
 
+import model
+
 from . import read_families, worked, write_families
 
 SEED = "recorded"
 DRAWN = 600  # of each family
 READER_INPUTS = 560
+ADDED_INPUTS = 40  # that document 02 refuses and the crate doesn't
 TAPES = 304
 LONGEST = 300  # bytes of an input that is drawn
 MOST_PLACES = 12  # of one refusal number, in the first choice
@@ -117,6 +120,30 @@ def reader_list(oracle):
     return [candidates[i] for i in choose(candidates, reader_shows, READER_INPUTS)]
 
 
+def model_block(file):
+    """The block of a file by the model: where document 02 refuses and the crate doesn't, the answers are not the crate's."""
+    lines, state = ["events"], model.FRESH
+    while not lines[-1].startswith(("end", "refused")):
+        line, state = model.step(file, state)
+        lines.append(line.split(" ", 2)[2] if line.startswith("at ") else line)
+    for _ in range(2):
+        line, state = model.step(file, state)
+        lines.append(f"then {line}")
+    return "".join(line + "\n" for line in lines)
+
+
+def added_list(oracle):
+    """Files with an object that document 02's added rules refuse, answered by the model."""
+    named = list(pool(worked.files() + worked.kinds(), read_families.FAMILIES))
+    answers = blocks(ask(oracle, "read", [each for _, each in named]))
+    candidates = [
+        (name, each, model_block(each))
+        for (name, each), block in zip(named, answers, strict=True)
+        if re.search(r"(?m)^outside \d+ at \d+$", block)
+    ]
+    return [candidates[i] for i in choose(candidates, reader_shows, ADDED_INPUTS)]
+
+
 def tape_list(oracle):
     named = list(pool(worked.tapes(), write_families.FAMILIES))
     answers = ask(oracle, "write", [each for _, each in named]).splitlines(keepends=True)
@@ -151,9 +178,11 @@ def main():
     files = reader_list(oracle)
     check_reader(files)
     tapes = tape_list(oracle)
+    added = added_list(oracle)
     save(folder, "reader-inputs.txt", "reader-answers.txt", files)
+    save(folder, "added-inputs.txt", "added-answers.txt", added)
     save(folder, "writer-tapes.txt", "writer-answers.txt", tapes)
-    print(f"recorded: {len(files)} reader inputs, {len(tapes)} tapes")
+    print(f"recorded: {len(files)} reader inputs, {len(added)} by document 02, {len(tapes)} tapes")
 
 
 if __name__ == "__main__":

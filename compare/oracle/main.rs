@@ -3,6 +3,8 @@
 //! Every command reads one input a line, in hex, and answers them in order, so that one run serves
 //! hundreds of thousands of inputs. The formats stand in compare/README.md.
 
+#[path = "../drive/added.rs"]
+mod added;
 mod hex;
 mod listing;
 mod read;

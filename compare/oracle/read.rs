@@ -5,8 +5,7 @@
 //! on a small file, whence the cap on events. A panic is caught and reported.
 
 use std::{
-    cell::Cell,
-    io::{self, Cursor, Read, Seek, SeekFrom},
+    io::Cursor,
     panic::{AssertUnwindSafe, catch_unwind},
 };
 
@@ -15,7 +14,10 @@ use plist::{
     stream::{BinaryReader, Event},
 };
 
-use crate::listing;
+use crate::{
+    added::{self, CountedSeeks, Seeks, Sought},
+    listing,
+};
 
 pub const DEFAULT_CAP: usize = 2000;
 
@@ -38,7 +40,7 @@ pub fn block(file: &[u8], cap: usize) -> String {
 }
 
 fn list(file: &[u8], cap: usize, lines: &mut Vec<String>) {
-    let seeks = Cell::new(0);
+    let seeks = Seeks::default();
     let mut reader = Watched::new(file, &seeks);
     for _ in 0..cap {
         match reader.next() {
@@ -68,36 +70,46 @@ enum Answer {
     /// The end, or a refusal.
     Last(String),
     /// Document 01 compares nothing from here on.
-    Outside(&'static str),
+    Outside(String),
 }
 
 /// The reader, with what document 01 needs to know about it beside its answers.
 struct Watched<'a> {
+    file: &'a [u8],
     reader: BinaryReader<CountedSeeks<'a>>,
-    seeks: &'a Cell<u64>,
+    seeks: &'a Seeks,
+    sought: Sought,
     open: usize,
     /// The object last fetched came from the reader's cache, so that its place is an older one.
     from_cache: bool,
 }
 
 impl<'a> Watched<'a> {
-    fn new(file: &'a [u8], seeks: &'a Cell<u64>) -> Self {
+    fn new(file: &'a [u8], seeks: &'a Seeks) -> Self {
         let cursor = CountedSeeks {
             cursor: Cursor::new(file),
             seeks,
         };
         Watched {
+            file,
             reader: BinaryReader::new(cursor),
             seeks,
+            sought: Sought::default(),
             open: 0,
             from_cache: false,
         }
     }
 
     fn next(&mut self) -> Answer {
-        let seeks_before = self.seeks.get();
+        let seeks_before = self.seeks.count.get();
         let answer = self.reader.next();
-        let sought = self.seeks.get() != seeks_before;
+        let made = self.seeks.count.get() - seeks_before;
+        let sought = made != 0;
+        if let Some(offset) = self.sought.object(made, self.seeks) {
+            if let Some(number) = added::refusal(self.file, offset) {
+                return Answer::Outside(format!("{number} at {offset}"));
+            }
+        }
         match answer {
             None => Answer::Last("end".to_string()),
             Some(Err(error)) => {
@@ -117,7 +129,7 @@ impl<'a> Watched<'a> {
     fn event(&mut self, event: &Event) -> Answer {
         match event {
             Event::StartArray(_) | Event::StartDictionary(_) if self.open == MAX_OPEN => {
-                return Answer::Outside("depth");
+                return Answer::Outside("depth".to_string());
             }
             Event::StartArray(_) | Event::StartDictionary(_) => self.open += 1,
             Event::EndCollection => self.open -= 1,
@@ -125,13 +137,13 @@ impl<'a> Watched<'a> {
         }
         match listing::line(event) {
             Some(line) => Answer::Event(line),
-            None => Answer::Outside("date"),
+            None => Answer::Outside("date".to_string()),
         }
     }
 
     fn refusal(&self, refusal: Refusal) -> Answer {
         match refusal {
-            Refusal::Date => Answer::Outside("date"),
+            Refusal::Date => Answer::Outside("date".to_string()),
             Refusal::Reader { number, .. } if self.from_cache => {
                 Answer::Last(format!("refused {number} at -"))
             }
@@ -140,24 +152,5 @@ impl<'a> Watched<'a> {
             }
             other => panic!("{other:?}"),
         }
-    }
-}
-
-/// A file in memory that counts how often its reader seeks.
-struct CountedSeeks<'a> {
-    cursor: Cursor<&'a [u8]>,
-    seeks: &'a Cell<u64>,
-}
-
-impl Read for CountedSeeks<'_> {
-    fn read(&mut self, buffer: &mut [u8]) -> io::Result<usize> {
-        self.cursor.read(buffer)
-    }
-}
-
-impl Seek for CountedSeeks<'_> {
-    fn seek(&mut self, to: SeekFrom) -> io::Result<u64> {
-        self.seeks.set(self.seeks.get() + 1);
-        self.cursor.seek(to)
     }
 }

@@ -1,4 +1,4 @@
--- What a refusal of a step or of a text request leaves: table N of docs/FORMAT.md, for all of 1 to 17.
+-- What a refusal of a step or of a text request leaves: table N of docs/FORMAT.md, for all of 1 to 17, and 31.
 use mathlib.Core.Bool.{Bool, true, false, cond}
 use mathlib.Core.List.{List, []}
 use mathlib.Core.Logic.{_⊎_, inl, inr}

@@ -1,7 +1,9 @@
 -- Two answers that say the same are the same.
+use mathlib.Core.Bool.{cond}
 use mathlib.Core.List.{List, [], _∷_}
 use mathlib.Core.Path.{_≡_, refl, sym, ap, _∙_}
 use Prim.Native.Nat.{ℕ}
+use lib.Dec.{eqb}
 use lib.ListN.{getD}
 use Rattle.layout.specs.Bytes.{Asked, inFile, inUtf16, noBytes, denied}
 use Rattle.layout.specs.Looked.{Looked, barred, missing, faulty, scalar, container, Shape, array, dictionary}
@@ -14,18 +16,18 @@ use Rattle.layout.specs.declared.lookup.Look.the-variants.{Refused, Scal
 use Rattle.layout.specs.declared.lookup.Shape.{Shape as ShapeRead}
 use Rattle.layout.specs.declared.lookup.Shape.the-variants.{Array, Dictionary}
 use Rattle.layout.specs.declared.refusal.Refusal.{Refusal}
-use Rattle.layout.specs.declared.refusal.Refusal.the-variants.{TooLong, EndOfInput, InvalidMagic, InvalidTrailerObjectOffsetSize, InvalidTrailerObjectReferenceSize, ObjectOffsetTooLarge, ObjectReferenceTooLarge, NullObjectUnimplemented, FillObjectUnimplemented, UnknownObjectType, IntegerOutOfRange, InvalidUtf8String, InvalidUtf16String, RecursiveObject, TooDeep, NoRoomForText, WrongFile}
+use Rattle.layout.specs.declared.refusal.Refusal.the-variants.{TooLong, EndOfInput, InvalidMagic, InvalidTrailerObjectOffsetSize, InvalidTrailerObjectReferenceSize, ObjectOffsetTooLarge, ObjectReferenceTooLarge, NullObjectUnimplemented, FillObjectUnimplemented, UnknownObjectType, IntegerOutOfRange, InvalidUtf8String, InvalidUtf16String, RecursiveObject, TooDeep, NoRoomForText, WrongFile, InvalidObjectLength}
 use Rattle.layout.specs.declared.trailer.TrailerRead.{TrailerRead}
 use Rattle.layout.specs.declared.trailer.TrailerRead.the-variants.{Keeps, Ends, Lays}
 
--- the refusals in the order of their numbers, the marker of 10 given
+-- the refusals up to 17 in the order of their numbers, the marker of 10 given
 named : ℕ → List Refusal
 named marker =
     WrongFile ∷ TooLong ∷ EndOfInput ∷ InvalidMagic ∷ InvalidTrailerObjectOffsetSize ∷ InvalidTrailerObjectReferenceSize ∷ ObjectOffsetTooLarge ∷ ObjectReferenceTooLarge ∷ NullObjectUnimplemented ∷ FillObjectUnimplemented ∷ UnknownObjectType marker ∷ IntegerOutOfRange ∷ InvalidUtf8String ∷ InvalidUtf16String ∷ RecursiveObject ∷ TooDeep ∷ NoRoomForText ∷ WrongFile ∷ []
 
 -- the refusal of a number and values
 pub refusalFrom : ℕ → List ℕ → Refusal
-refusalFrom number values = getD (named (getD values 0 0)) number TooLong
+refusalFrom number values = cond (eqb number 31) InvalidObjectLength (getD (named (getD values 0 0)) number TooLong)
 
 pub again : (r : Refusal) → refusalFrom (numberOf r) (valuesOf r) ≡ r
 unfolding numberOf valuesOf refusalFrom named
@@ -46,6 +48,7 @@ again RecursiveObject = refl
 again TooDeep = refl
 again NoRoomForText = refl
 again WrongFile = refl
+again InvalidObjectLength = refl
 
 -- where bytes stand, what is looked up, and a trailer, from what they say
 askedFrom : Asked → AskedRead

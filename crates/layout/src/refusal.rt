@@ -21,6 +21,7 @@ pub enum Refusal {
     TooDeep,
     NoRoomForText,
     WrongFile,
+    InvalidObjectLength,
 }
 
 // A refusal's number (docs/FORMAT.md, N).
@@ -45,5 +46,6 @@ pub fn number_of(refusal: Refusal) -> u32
         Refusal::TooDeep => 15,
         Refusal::NoRoomForText => 16,
         Refusal::WrongFile => 17,
+        Refusal::InvalidObjectLength => 31,
     }
 }

@@ -14,7 +14,7 @@ use Rattle.number.specs.declared.width.Width.the-variants.{One}
 use Rattle.number.specs.declared.width.Width.{Width}
 use Rattle.event.specs.declared.Event.the-variants.{Integer}
 use Rattle.event.specs.declared.Integer.the-variants.{Signed, Unsigned}
-use Rattle.object.specs.Content.{trailerAt, lengthWidth, extentAt, headAt, roomFor, measured, contentAt, pairsIn, pairsAt}
+use Rattle.object.specs.Content.{trailerAt, lengthWidth, extentAt, isLengthByte, hasLength, headAt, roomFor, measured, contentAt, pairsIn, pairsAt}
 use Rattle.object.specs.Kind.{kindOf}
 use Rattle.object.specs.Object.{Found, refused, refusedBy, scalar, bytes, utf16, fixedAt, wideIn, dataIn, utf16In, dictionaryIn, byKind, objectAt}
 use Rattle.object.specs.ObjectLaws.{object-inside}
@@ -44,14 +44,14 @@ pub p5 : found (0x14 ∷ replicate 16 0xFF) 0 ≡ refused 11 []
 unfolding objectAt byKind kindOf be onto fixedAt wideIn refusedBy numberOf valuesOf
 p5 = refl
 
--- P6: `4F 10 02 AB CD`, `4F 50 02 AB CD` and `4F 14 02 AB CD` are one data
-pub p6 : (found (0x4F ∷ 0x10 ∷ 0x02 ∷ 0xAB ∷ 0xCD ∷ []) 0 ≡ bytes 3 2) × (found (0x4F ∷ 0x50 ∷ 0x02 ∷ 0xAB ∷ 0xCD ∷ []) 0 ≡ bytes 3 2) × (found (0x4F ∷ 0x14 ∷ 0x02 ∷ 0xAB ∷ 0xCD ∷ []) 0 ≡ bytes 3 2)
-unfolding objectAt byKind kindOf be onto dataIn contentAt measured headAt roomFor extentAt lengthWidth
+-- P6: `4F 10 02 AB CD` is data; `4F 50 02 AB CD` and `4F 14 02 AB CD` give 31
+pub p6 : (found (0x4F ∷ 0x10 ∷ 0x02 ∷ 0xAB ∷ 0xCD ∷ []) 0 ≡ bytes 3 2) × (found (0x4F ∷ 0x50 ∷ 0x02 ∷ 0xAB ∷ 0xCD ∷ []) 0 ≡ refused 31 []) × (found (0x4F ∷ 0x14 ∷ 0x02 ∷ 0xAB ∷ 0xCD ∷ []) 0 ≡ refused 31 [])
+unfolding objectAt byKind kindOf be onto dataIn refusedBy numberOf valuesOf contentAt measured headAt hasLength isLengthByte roomFor extentAt lengthWidth
 p6 = (refl, refl, refl)
 
 -- P7: `61 D8 00` gives 13
 pub p7 : found (0x61 ∷ 0xD8 ∷ 0x00 ∷ []) 0 ≡ refused 13 []
-unfolding objectAt byKind kindOf utf16In refusedBy numberOf valuesOf contentAt measured headAt roomFor extentAt isUtf16 isEven paired unitsOf isHigh
+unfolding objectAt byKind kindOf utf16In refusedBy numberOf valuesOf contentAt measured headAt hasLength isLengthByte roomFor extentAt isUtf16 isEven paired unitsOf isHigh
 p7 = refl
 
 abbrev magic : List ℕ
@@ -59,15 +59,15 @@ magic = 0x62 ∷ 0x70 ∷ 0x6C ∷ 0x69 ∷ 0x73 ∷ 0x74 ∷ 0x30 ∷ 0x30 ∷ 
 
 -- P8: offset 0 (T at least 4) reads `62`: text of two units, whatever follows the magic
 pub p8 : (rest : List ℕ) (refs : Width) → 4 ≤ trailerAt (magic ++ rest) → objectAt (magic ++ rest) refs 0 ≡ utf16 1 4
-unfolding byKind kindOf utf16In refusedBy numberOf valuesOf contentAt measured headAt roomFor extentAt isUtf16 isEven paired unitsOf isHigh isLow
+unfolding byKind kindOf utf16In refusedBy numberOf valuesOf contentAt measured headAt hasLength isLengthByte roomFor extentAt isUtf16 isEven paired unitsOf isHigh isLow
 p8 rest refs h = rw (object-inside (magic ++ rest) refs 0 (omega arith), le-leb 4 (trailerAt (magic ++ rest)) h)
 
 -- "Table byte `09` at 8, T = 10: `41` at 9 gives data `00` (trailer padding); `42` gives 6"
 pub padding : (found (magic ++ 0x09 ∷ 0x41 ∷ []) 9 ≡ bytes 10 1) × (found (magic ++ 0x09 ∷ 0x42 ∷ []) 9 ≡ refused 6 [])
-unfolding objectAt byKind kindOf dataIn refusedBy numberOf valuesOf contentAt measured headAt roomFor extentAt
+unfolding objectAt byKind kindOf dataIn refusedBy numberOf valuesOf contentAt measured headAt hasLength isLengthByte roomFor extentAt
 padding = (refl, refl)
 
 -- "Object at 9, references of 1 byte, `DF 10 1D`, T = 38: 6; `DF 10 1E`, T = 39: 2"
 pub pairs : (found (magic ++ 0x00 ∷ 0xDF ∷ 0x10 ∷ 0x1D ∷ replicate 26 0) 9 ≡ refused 6 []) × (found (magic ++ 0x00 ∷ 0xDF ∷ 0x10 ∷ 0x1E ∷ replicate 27 0) 9 ≡ refused 2 [])
-unfolding objectAt byKind kindOf be onto dictionaryIn refusedBy numberOf valuesOf pairsAt pairsIn contentAt measured headAt roomFor extentAt lengthWidth bytesIn
+unfolding objectAt byKind kindOf be onto dictionaryIn refusedBy numberOf valuesOf pairsAt pairsIn contentAt measured headAt hasLength isLengthByte roomFor extentAt lengthWidth bytesIn
 pairs = (refl, refl)

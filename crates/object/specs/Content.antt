@@ -1,5 +1,5 @@
 -- The length of an object that has one, and the room it needs. docs/FORMAT.md, rules R12 to R14.
-use mathlib.Core.Bool.{Bool, cond}
+use mathlib.Core.Bool.{Bool, true, cond, _&&_}
 use mathlib.Core.List.{List}
 use Prim.Native.Nat.{ℕ, _+_, _-_, _*_, _%_, _^_}
 use lib.Dec.{leb, eqb}
@@ -9,13 +9,17 @@ use Rattle.number.specs.Part.{part}
 use Rattle.object.specs.declared.content.Content.{Content}
 use Rattle.object.specs.declared.content.Content.the-variants.{Fits, Refused}
 use Rattle.object.specs.declared.content.Extent.{Extent}
-use Rattle.object.specs.declared.refusal.Refusal.the-variants.{EndOfInput, ObjectOffsetTooLarge}
+use Rattle.object.specs.declared.refusal.Refusal.the-variants.{EndOfInput, ObjectOffsetTooLarge, InvalidObjectLength}
 
 -- T (R1)
 abbrev pub trailerAt : List ℕ → ℕ
 trailerAt file = length file - 32
 
--- the two low bits of the byte in front of a length say how many bytes it has: 1, 2, 4 or 8 (R12)
+-- the byte in front of a length must be 10, 11, 12 or 13 (R12)
+unfoldable pub isLengthByte : ℕ → Bool
+isLengthByte byte = leb 0x10 byte && leb byte 0x13
+
+-- its two low bits say how many bytes the length has: 1, 2, 4 or 8 (R12)
 unfoldable pub lengthWidth : ℕ → ℕ
 lengthWidth byte = 2 ^ (byte % 4)
 
@@ -26,10 +30,14 @@ extentAt file offset nibble =
     (record { start = offset + 2 + lengthWidth (getD file (offset + 1) 0); count = be (part file (offset + 2) (lengthWidth (getD file (offset + 1) 0))) })
     (record { start = offset + 1; count = nibble })
 
--- what the head of an object with a length tells: where its content stands, or the refusal of the byte in front of the length. No such byte
--- is refused (R12). All that has a length goes by this: data, both texts, arrays, dictionaries, and an open container that is looked at again
+-- whether a length stands where it should: in the marker, or behind its byte
+unfoldable pub hasLength : List ℕ → ℕ → ℕ → Bool
+hasLength file offset nibble = cond (eqb nibble 15) (isLengthByte (getD file (offset + 1) 0)) true
+
+-- what the head of an object with a length tells: where its content stands, or that the byte in front of the length is refused with 31 (R12).
+-- All that has a length goes by this: data, both texts, arrays, dictionaries, and an open container that is looked at again
 unfoldable pub headAt : List ℕ → ℕ → ℕ → Content
-headAt file offset nibble = Fits (extentAt file offset nibble)
+headAt file offset nibble = cond (hasLength file offset nibble) (Fits (extentAt file offset nibble)) (Refused InvalidObjectLength)
 
 -- room: the object's own offset plus the size of its content must not be above T (R13)
 unfoldable pub roomFor : List ℕ → ℕ → ℕ → Bool

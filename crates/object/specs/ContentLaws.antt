@@ -9,7 +9,7 @@ use borrow.Author.Tests.{leb-true}
 use lib.Dec.{leb, eqb, lit<}
 use lib.ListN.{length, getD}
 use Rattle.number.specs.Either.{either}
-use Rattle.object.specs.Content.{trailerAt, lengthWidth, extentAt, headAt, roomFor, measured, contentAt, pairsIn, pairsAt}
+use Rattle.object.specs.Content.{trailerAt, lengthWidth, extentAt, hasLength, headAt, roomFor, measured, contentAt, pairsIn, pairsAt}
 use Rattle.object.specs.declared.content.Content.the-variants.{Fits, Refused}
 use Rattle.object.specs.declared.content.Content.{Content}
 use Rattle.object.specs.declared.content.Extent.{Extent}
@@ -47,7 +47,10 @@ module _ (file : List ℕ) (offset nibble : ℕ) (e : Extent) where
   -- what the head tells
   head-is : headAt file offset nibble ≡ Fits e → e ≡ extentAt file offset nibble
   unfolding headAt
-  head-is h = cc
+  head-is h =
+      let f = fits-by (hasLength file offset nibble) _ _ e h in
+      let s : Fits (extentAt file offset nibble) ≡ Fits e = f .1 in
+      cc
 
   -- what is known of an extent that has room
   pub record Fitting (each : ℕ) : Type 0 where

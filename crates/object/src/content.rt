@@ -6,7 +6,7 @@ ghost use Prim.Native.Nat.{_+_, _*_, _≤_, _<_};
 ghost use lib.ListN.{length};
 ghost use Rattle.number.specs.Be.{be};
 ghost use Rattle.number.specs.Part.{part};
-ghost use Rattle.object.specs.Content.{lengthWidth, extentAt, headAt, roomFor, contentAt, pairsAt};
+ghost use Rattle.object.specs.Content.{lengthWidth, extentAt, hasLength, headAt, roomFor, contentAt, pairsAt};
 
 // Where the content of an object stands, and how many elements it has: bytes, units, references or pairs.
 pub struct Extent {
@@ -61,12 +61,30 @@ fn extent_at(file: &[u8], offset: usize, nibble: u8) -> Extent
     }
 }
 
-// What such an object's head tells: its extent, or the refusal of the byte in front of its length. No such byte is refused.
+// Whether the length stands where it should: in the marker, or behind a byte of 10 to 13.
+fn has_length(file: &[u8], offset: usize, nibble: u8) -> bool
+    requires { ⌜ offset + 10 ≤ length (now file) ⌝ }
+    ensures { λ r. ⌜ r ≡ hasLength (now (file .entry)) offset nibble ⌝ }
+{
+    if nibble != 15 {
+        return true;
+    }
+    let byte = file[offset + 1];
+    if byte < 0x10 {
+        return false;
+    }
+    byte <= 0x13
+}
+
+// What such an object's head tells: its extent, or the refusal of the byte in front of its length.
 pub(crate) fn head_at(file: &[u8], offset: usize, nibble: u8) -> Content
     requires { ⌜ offset + 10 ≤ length (now file) ⌝ }
     ensures { λ r. ⌜ r ≡ headAt (now (file .entry)) offset nibble ⌝ }
 {
-    Content::Fits(extent_at(file, offset, nibble))
+    if has_length(file, offset, nibble) {
+        return Content::Fits(extent_at(file, offset, nibble));
+    }
+    Content::Refused(Refusal::InvalidObjectLength)
 }
 
 // Whether content of so many elements, of so many bytes each, has room behind an object's offset.

@@ -8,4 +8,5 @@ pub enum Refusal {
     IntegerOutOfRange,
     InvalidUtf8String,
     InvalidUtf16String,
+    InvalidObjectLength,
 }

@@ -13,7 +13,7 @@ use Rattle.event.specs.Format.{magic}
 use Rattle.event.specs.Meaning.{array, close, integer, bytes, text, meaningOf, valueOf, givenOf}
 use Rattle.object.specs.Refusal.{numberOf as objectNumber, valuesOf as objectValues}
 use Rattle.object.specs.Container.{containerAt, containerOf, arrayOf, dictionaryOf}
-use Rattle.object.specs.Content.{contentAt, extentAt, roomFor, lengthWidth, measured, headAt}
+use Rattle.object.specs.Content.{contentAt, extentAt, roomFor, lengthWidth, measured, hasLength, isLengthByte, headAt}
 use Rattle.object.specs.Kind.{kindOf}
 use Rattle.object.specs.Object.{objectAt, byKind, wideIn, dataIn, utf16In, arrayIn, fixedAt, refusedBy}
 use Rattle.layout.specs.Layout.{numberAt, entryAt, given, dueAt, inArray, dueIn, standsFrom, standsAt, dueOf, lookIn, lookFrom, lookOf, sourceOf}
@@ -52,15 +52,15 @@ cases =
     record { file = one (0x14 ∷ replicate 8 0 ++ replicate 8 0xFF); answer = means (integer (pos 18_446_744_073_709_551_615)) 8 ∷ ended ∷ ended ∷ [] } ∷
     record { file = one (0x14 ∷ replicate 16 0xFF); answer = refused 11 [] 8 ∷ ended ∷ ended ∷ [] } ∷
     record { file = one (0x4F ∷ 0x10 ∷ 0x02 ∷ 0xAB ∷ 0xCD ∷ []); answer = means (bytes (0xAB ∷ 0xCD ∷ [])) 8 ∷ ended ∷ ended ∷ [] } ∷
-    record { file = one (0x4F ∷ 0x50 ∷ 0x02 ∷ 0xAB ∷ 0xCD ∷ []); answer = means (bytes (0xAB ∷ 0xCD ∷ [])) 8 ∷ ended ∷ ended ∷ [] } ∷
-    record { file = one (0x4F ∷ 0x14 ∷ 0x02 ∷ 0xAB ∷ 0xCD ∷ []); answer = means (bytes (0xAB ∷ 0xCD ∷ [])) 8 ∷ ended ∷ ended ∷ [] } ∷
+    record { file = one (0x4F ∷ 0x50 ∷ 0x02 ∷ 0xAB ∷ 0xCD ∷ []); answer = refused 31 [] 8 ∷ ended ∷ ended ∷ [] } ∷
+    record { file = one (0x4F ∷ 0x14 ∷ 0x02 ∷ 0xAB ∷ 0xCD ∷ []); answer = refused 31 [] 8 ∷ ended ∷ ended ∷ [] } ∷
     record { file = one (0x61 ∷ 0xD8 ∷ 0x00 ∷ []); answer = refused 13 [] 8 ∷ ended ∷ ended ∷ [] } ∷
     record { file = inHeader 0; answer = means (text (0xE7 ∷ 0x81 ∷ 0xAC ∷ 0xE6 ∷ 0xA5 ∷ 0xB3 ∷ [])) 0 ∷ ended ∷ ended ∷ [] } ∷
     record { file = one (0xA1 ∷ 0x00 ∷ []); answer = means (array (some 1)) 8 ∷ refused 14 [] 8 ∷ ended ∷ [] } ∷
     []
 
 pub cases-right : map (λ (c : Case). answers 3 (c .file) freshReader) cases ≡ map (λ (c : Case). c .answer) cases
-unfolding be onto signedOf widthOf bytesIn isUtf16 isEven paired unitsOf isHigh isLow toUtf8 utf8 utf8Of scalars16 meaningOf valueOf givenOf containerAt containerOf arrayOf dictionaryOf contentAt measured headAt extentAt roomFor lengthWidth kindOf objectAt byKind fixedAt refusedBy objectNumber objectValues wideIn dataIn utf16In arrayIn numberAt entryAt given dueAt inArray dueIn standsFrom standsAt dueOf lookIn lookFrom lookOf sourceOf startOf enter arrive follow stepOf answers told meaningAt bytesAsked laidOut begin withRefs goOn nextOf dataAsked textAsked eventAsked openOf innermost memberOf advanced passed entered nextIn magic begins eightAt tableOf refSizeOf sizesOf trailerOf
+unfolding be onto signedOf widthOf bytesIn isUtf16 isEven paired unitsOf isHigh isLow toUtf8 utf8 utf8Of scalars16 meaningOf valueOf givenOf containerAt containerOf arrayOf dictionaryOf contentAt measured headAt hasLength isLengthByte extentAt roomFor lengthWidth kindOf objectAt byKind fixedAt refusedBy objectNumber objectValues wideIn dataIn utf16In arrayIn numberAt entryAt given dueAt inArray dueIn standsFrom standsAt dueOf lookIn lookFrom lookOf sourceOf startOf enter arrive follow stepOf answers told meaningAt bytesAsked laidOut begin withRefs goOn nextOf dataAsked textAsked eventAsked openOf innermost memberOf advanced passed entered nextIn magic begins eightAt tableOf refSizeOf sizesOf trailerOf
 cases-right = refl
 
 -- n arrays, each inside the last, from 8 on, and the table of their offsets
@@ -77,9 +77,9 @@ nested n = magic ++ inside n 1 ++ offsets n 8 ++ trailer (n + 1) (9 + 2 * n)
 
 -- the case "depth": 64 arrays, each in the one before, are read; with 65, 15 comes at the offset of the 65th
 pub deep-64 : drop 63 (answers 65 (nested 63) freshReader) ≡ means (array (some 0)) 134 ∷ means close 134 ∷ []
-unfolding be onto widthOf bytesIn meaningOf valueOf givenOf containerAt containerOf arrayOf dictionaryOf contentAt measured headAt extentAt roomFor lengthWidth kindOf objectAt byKind fixedAt refusedBy objectNumber objectValues arrayIn numberAt entryAt given dueAt inArray dueIn standsFrom standsAt dueOf lookIn lookFrom lookOf sourceOf startOf enter arrive follow stepOf answers told meaningAt bytesAsked laidOut begin withRefs goOn nextOf eventAsked openOf innermost memberOf advanced passed entered nextIn magic begins eightAt tableOf refSizeOf sizesOf trailerOf closed
+unfolding be onto widthOf bytesIn meaningOf valueOf givenOf containerAt containerOf arrayOf dictionaryOf contentAt measured headAt hasLength isLengthByte extentAt roomFor lengthWidth kindOf objectAt byKind fixedAt refusedBy objectNumber objectValues arrayIn numberAt entryAt given dueAt inArray dueIn standsFrom standsAt dueOf lookIn lookFrom lookOf sourceOf startOf enter arrive follow stepOf answers told meaningAt bytesAsked laidOut begin withRefs goOn nextOf eventAsked openOf innermost memberOf advanced passed entered nextIn magic begins eightAt tableOf refSizeOf sizesOf trailerOf closed
 deep-64 = refl
 
 pub deep-65 : drop 63 (answers 66 (nested 64) freshReader) ≡ means (array (some 1)) 134 ∷ refused 15 [] 136 ∷ ended ∷ []
-unfolding be onto widthOf bytesIn meaningOf valueOf givenOf containerAt containerOf arrayOf dictionaryOf contentAt measured headAt extentAt roomFor lengthWidth kindOf objectAt byKind fixedAt refusedBy objectNumber objectValues arrayIn numberAt entryAt given dueAt inArray dueIn standsFrom standsAt dueOf lookIn lookFrom lookOf sourceOf startOf enter arrive follow stepOf answers told meaningAt bytesAsked laidOut begin withRefs goOn nextOf eventAsked openOf innermost memberOf advanced passed entered nextIn magic begins eightAt tableOf refSizeOf sizesOf trailerOf closed
+unfolding be onto widthOf bytesIn meaningOf valueOf givenOf containerAt containerOf arrayOf dictionaryOf contentAt measured headAt hasLength isLengthByte extentAt roomFor lengthWidth kindOf objectAt byKind fixedAt refusedBy objectNumber objectValues arrayIn numberAt entryAt given dueAt inArray dueIn standsFrom standsAt dueOf lookIn lookFrom lookOf sourceOf startOf enter arrive follow stepOf answers told meaningAt bytesAsked laidOut begin withRefs goOn nextOf eventAsked openOf innermost memberOf advanced passed entered nextIn magic begins eightAt tableOf refSizeOf sizesOf trailerOf closed
 deep-65 = refl

@@ -6,7 +6,7 @@ use lib.Dec.{eqb}
 use Rattle.layout.specs.Said.{numberOf, valuesOf}
 use Rattle.layout.specs.SaidLaws.{refusalFrom, again}
 use Rattle.layout.specs.declared.refusal.Refusal.{Refusal}
-use Rattle.layout.specs.declared.refusal.Refusal.the-variants.{TooLong, EndOfInput, InvalidMagic, InvalidTrailerObjectOffsetSize, InvalidTrailerObjectReferenceSize, ObjectOffsetTooLarge, ObjectReferenceTooLarge, NullObjectUnimplemented, FillObjectUnimplemented, UnknownObjectType, IntegerOutOfRange, InvalidUtf8String, InvalidUtf16String, RecursiveObject, TooDeep, NoRoomForText, WrongFile}
+use Rattle.layout.specs.declared.refusal.Refusal.the-variants.{TooLong, EndOfInput, InvalidMagic, InvalidTrailerObjectOffsetSize, InvalidTrailerObjectReferenceSize, ObjectOffsetTooLarge, ObjectReferenceTooLarge, NullObjectUnimplemented, FillObjectUnimplemented, UnknownObjectType, IntegerOutOfRange, InvalidUtf8String, InvalidUtf16String, RecursiveObject, TooDeep, NoRoomForText, WrongFile, InvalidObjectLength}
 use Rattle.transcribe.specs.Run.{End, ended, stopped, refused}
 use Rattle.transcribe.specs.Said.{endSaid}
 use Rattle.transcribe.specs.declared.Ending.{Ending}
@@ -39,6 +39,7 @@ other RecursiveObject place = refl
 other TooDeep place = refl
 other NoRoomForText place = refl
 other WrongFile place = refl
+other InvalidObjectLength place = refl
 
 ending-again : (x : Ending) → endingFrom (endSaid x) ≡ x
 unfolding endSaid endingFrom

@@ -14,7 +14,7 @@ use Rattle.number.specs.Size.{sizeOf}
 use Rattle.number.specs.SizeLaws.{Sized, one, two, four, eight, sized, fits-itself}
 use Rattle.number.specs.declared.width.Width.{Width}
 use Rattle.number.specs.Part.{part}
-use Rattle.object.specs.Content.{trailerAt, lengthWidth, extentAt, headAt, roomFor, measured, contentAt}
+use Rattle.object.specs.Content.{trailerAt, lengthWidth, extentAt, isLengthByte, hasLength, headAt, roomFor, measured, contentAt}
 use Rattle.object.specs.Kind.{kindOf}
 use Rattle.object.specs.Object.{Found, fixedAt, byKind, objectAt}
 use Rattle.object.specs.ObjectLaws.{object-inside}
@@ -74,9 +74,29 @@ extent-is file at base n small st = go (ltb n 15) refl
         let v : be (part file (at + 2) w) ≡ n = stands-number file (at + 2) w n (fits-itself n small) d in
         rw (e, g, marker-width (sized n), v, length-bytesOf w n) (ap (λ (x : ℕ). record { start = x; count = n }) (let a : at + 2 + w ≡ at + suc (suc w) = omega arith in a))
 
+-- and stands where it should
+marker-is : {w : ℕ} → Sized w → isLengthByte (sizeMarker w) ≡ true
+unfolding isLengthByte sizeMarker
+marker-is one = refl
+marker-is two = refl
+marker-is four = refl
+marker-is eight = refl
+
+length-is : (file : List ℕ) (at base n : ℕ) → Stands file at (headBytes base n) → hasLength file at (nibbleOf n) ≡ true
+unfolding hasLength headBytes nibbleOf numberBytes
+length-is file at base n st = go (ltb n 15) refl
+  where
+    go : (b : Bool) → ltb n 15 ≡ b → hasLength file at (nibbleOf n) ≡ true
+    go true e = rw (e, ne-eqb n 15 (let l : n < 15 = ltb-true n 15 e in omega arith))
+    go false e =
+        let w = sizeOf n in
+        let s : Stands file at ((base + 15) ∷ sizeMarker w ∷ bytesOf w n) = rw e at st in
+        let m : Stands file (at + 1) (sizeMarker w ∷ bytesOf w n) = stands-back file at ((base + 15) ∷ []) (sizeMarker w ∷ bytesOf w n) s in
+        rw (e, stands-byte file (at + 1) (sizeMarker w) (bytesOf w n) m) (marker-is (sized n))
+
 head-is : (file : List ℕ) (at base n : ℕ) → n < 2 ^ 64 → Stands file at (headBytes base n) → headAt file at (nibbleOf n) ≡ Fits (behind at base n)
 unfolding headAt
-head-is file at base n small st = ap Fits (extent-is file at base n small st)
+head-is file at base n small st = rw (length-is file at base n st) (ap Fits (extent-is file at base n small st))
 
 -- a head of n in front of bytes, n elements of so many bytes each at least, that end at or before T
 pub record Headed (file : List ℕ) (at base n each : ℕ) (s : List ℕ) : Type 0 where

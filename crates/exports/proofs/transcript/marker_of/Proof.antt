@@ -8,7 +8,7 @@ use types.Run.{OneOf, miss}
 use Rattle.layout.proofs.refusal.Refusal.{the-type}
 use Rattle.layout.specs.Said.{valuesOf}
 use Rattle.layout.specs.declared.refusal.Refusal.{Refusal}
-use Rattle.layout.specs.declared.refusal.Refusal.the-variants.{TooLong, EndOfInput, InvalidMagic, InvalidTrailerObjectOffsetSize, InvalidTrailerObjectReferenceSize, ObjectOffsetTooLarge, ObjectReferenceTooLarge, NullObjectUnimplemented, FillObjectUnimplemented, UnknownObjectType, IntegerOutOfRange, InvalidUtf8String, InvalidUtf16String, RecursiveObject, TooDeep, NoRoomForText, WrongFile}
+use Rattle.layout.specs.declared.refusal.Refusal.the-variants.{TooLong, EndOfInput, InvalidMagic, InvalidTrailerObjectOffsetSize, InvalidTrailerObjectReferenceSize, ObjectOffsetTooLarge, ObjectReferenceTooLarge, NullObjectUnimplemented, FillObjectUnimplemented, UnknownObjectType, IntegerOutOfRange, InvalidUtf8String, InvalidUtf16String, RecursiveObject, TooDeep, NoRoomForText, WrongFile, InvalidObjectLength}
 use borrow.Author.Needs.{needs}
 use Rattle.exports.proofs.transcript.marker_of.Statement.{statement}
 use Rattle.exports.proofs.transcript.marker_of.Tie as tie
@@ -18,7 +18,7 @@ enum-known-refusal c = search needs
 
 -- the tags of all refusals but 10
 abbrev tags : List ℕ
-tags = 0 ∷ 1 ∷ 2 ∷ 3 ∷ 4 ∷ 5 ∷ 6 ∷ 7 ∷ 8 ∷ 10 ∷ 11 ∷ 12 ∷ 13 ∷ 14 ∷ 15 ∷ 16 ∷ []
+tags = 0 ∷ 1 ∷ 2 ∷ 3 ∷ 4 ∷ 5 ∷ 6 ∷ 7 ∷ 8 ∷ 10 ∷ 11 ∷ 12 ∷ 13 ∷ 14 ∷ 15 ∷ 16 ∷ 17 ∷ []
 
 -- they have no value
 others : (r : Refusal) → OneOf tags (tagOf the-type r) → 0 ≡ getD (valuesOf r) 0 0
@@ -40,6 +40,7 @@ others RecursiveObject k = refl
 others TooDeep k = refl
 others NoRoomForText k = refl
 others WrongFile k = refl
+others InvalidObjectLength k = refl
 
 returns : tie.Need-returns
 returns c = others (c .before .args .refusal) (c .match .keys2)

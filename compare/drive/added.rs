@@ -1,0 +1,61 @@
+//! Where document 02 refuses an object and the crate doesn't, by the object's bytes alone. The crate's seeks tell which objects are reached.
+
+use std::{
+    cell::Cell,
+    io::{self, Cursor, Read, Seek, SeekFrom},
+};
+
+/// The number with which an object below T is refused by a rule that document 02 adds.
+pub fn refusal(file: &[u8], offset: usize) -> Option<u8> {
+    odd_length(file, offset).then_some(31)
+}
+
+/// #102: a length that stands behind a byte other than 10, 11, 12 and 13.
+fn odd_length(file: &[u8], offset: usize) -> bool {
+    let marker = file[offset];
+    let with_length = matches!(marker >> 4, 0x4 | 0x5 | 0x6 | 0xa | 0xd);
+    with_length && marker & 15 == 15 && !matches!(file[offset + 1], 0x10..=0x13)
+}
+
+/// How often a reader has sought, and where last.
+#[derive(Default)]
+pub struct Seeks {
+    pub count: Cell<u64>,
+    pub last: Cell<u64>,
+}
+
+/// A file in memory that counts how often its reader seeks.
+pub struct CountedSeeks<'a> {
+    pub cursor: Cursor<&'a [u8]>,
+    pub seeks: &'a Seeks,
+}
+
+impl Read for CountedSeeks<'_> {
+    fn read(&mut self, buffer: &mut [u8]) -> io::Result<usize> {
+        self.cursor.read(buffer)
+    }
+}
+
+impl Seek for CountedSeeks<'_> {
+    fn seek(&mut self, to: SeekFrom) -> io::Result<u64> {
+        let place = self.cursor.seek(to)?;
+        self.seeks.count.set(self.seeks.count.get() + 1);
+        self.seeks.last.set(place);
+        Ok(place)
+    }
+}
+
+/// Which object a call sought. The trailer takes three seeks, an object one.
+#[derive(Default)]
+pub struct Sought {
+    laid: bool,
+}
+
+impl Sought {
+    /// The offset of the object that was sought in a call with so many seeks.
+    pub fn object(&mut self, made: u64, seeks: &Seeks) -> Option<usize> {
+        let reached = made == if self.laid { 1 } else { 4 };
+        self.laid |= reached;
+        reached.then(|| seeks.last.get() as usize)
+    }
+}
