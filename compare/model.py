@@ -59,34 +59,27 @@ def utf16_text(content):
 
 def head(file, offset):
     """The length that a head gives and where the content begins: the low nibble, or if it is 15, the next byte is 10, 11, 12 or
-    13 for 1, 2, 4 or 8 bytes of length; any other is 31. A head that runs past the file's end is 2."""
+    13 for 1, 2, 4 or 8 bytes of length; any other is 31. Of an object below T the head lies within the file."""
     low = file[offset] & 15
     if low != 15:
         return low, offset + 1
-    size = number_at(file, offset + 1, 1)
-    if size is None:
-        raise Refused(2, offset)
+    size = file[offset + 1]
     if not 0x10 <= size <= 0x13:
         raise Refused(31, offset)
     width = 1 << (size & 3)
-    length = number_at(file, offset + 2, width)
-    if length is None:
-        raise Refused(2, offset)
-    return length, offset + 2 + width
+    return number_at(file, offset + 2, width), offset + 2 + width
 
 
-def room(file, offset, size):
-    """Room is measured from the object's own offset: offset + content bytes must be at most T, else 6."""
-    if offset + size > len(file) - 32:
+def measure(file, offset, end):
+    """An object's true end, head and content, must be at most T, else 6."""
+    if end > len(file) - 32:
         raise Refused(6, offset)
 
 
 def whole(file, offset, at, width):
-    """A number of an object's content; past the file's end is 2."""
-    number = number_at(file, at, width)
-    if number is None:
-        raise Refused(2, offset)
-    return number
+    """The number of a scalar of fixed size, which must end at or before T."""
+    measure(file, offset, at + width)
+    return number_at(file, at, width)
 
 
 def object_at(file, refs, offset):
@@ -118,10 +111,8 @@ def object_at(file, refs, offset):
     if high in (4, 5, 6):
         length, start = head(file, offset)
         size = length * 2 if high == 6 else length
-        room(file, offset, size)
+        measure(file, offset, start + size)
         content = file[start : start + size]
-        if len(content) < size:
-            raise Refused(2, offset)
         if high == 4:
             return "data", content
         if high == 5:
@@ -138,18 +129,11 @@ def object_at(file, refs, offset):
         return "scalar", f"uid {whole(file, offset, offset + 1, low + 1)}"
     if high == 0xA:
         length, start = head(file, offset)
-        room(file, offset, length * refs)
-        if start + length * refs > len(file):
-            raise Refused(2, offset)
+        measure(file, offset, start + length * refs)
         return "array", length, start
     if high == 0xD:
         length, start = head(file, offset)
-        room(file, offset, length * refs)
-        if start + length * refs > len(file):
-            raise Refused(2, offset)
-        if start + 2 * length * refs > len(file):
-            raise Refused(2, offset)
-        room(file, offset, 2 * length * refs)
+        measure(file, offset, start + 2 * length * refs)
         return "dict", length, start
     raise Refused(10, offset)
 

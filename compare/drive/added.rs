@@ -7,7 +7,10 @@ use std::{
 
 /// The number with which an object below T is refused by a rule that document 02 adds.
 pub fn refusal(file: &[u8], offset: usize) -> Option<u8> {
-    odd_length(file, offset).then_some(31)
+    if odd_length(file, offset) {
+        return Some(31);
+    }
+    (end(file, offset) > file.len() as u128 - 32).then_some(6)
 }
 
 /// #102: a length that stands behind a byte other than 10, 11, 12 and 13.
@@ -15,6 +18,37 @@ fn odd_length(file: &[u8], offset: usize) -> bool {
     let marker = file[offset];
     let with_length = matches!(marker >> 4, 0x4 | 0x5 | 0x6 | 0xa | 0xd);
     with_length && marker & 15 == 15 && !matches!(file[offset + 1], 0x10..=0x13)
+}
+
+/// #104: where an object truly ends, head and content.
+fn end(file: &[u8], offset: usize) -> u128 {
+    let marker = file[offset];
+    let low = marker as u128 & 15;
+    let reference = file[file.len() - 25] as u128;
+    let behind = match marker {
+        0x10..=0x14 => 1 << low,
+        0x22 => 4,
+        0x23 | 0x33 => 8,
+        0x80..=0x87 => low + 1,
+        0x40..=0x5f => content(file, offset, 1),
+        0x60..=0x6f => content(file, offset, 2),
+        0xa0..=0xaf => content(file, offset, reference),
+        0xd0..=0xdf => content(file, offset, 2 * reference),
+        _ => 0,
+    };
+    offset as u128 + 1 + behind
+}
+
+/// How many bytes a length and its elements have behind the marker.
+fn content(file: &[u8], offset: usize, each: u128) -> u128 {
+    let low = file[offset] as u128 & 15;
+    if low != 15 {
+        return low * each;
+    }
+    let width = 1 << (file[offset + 1] & 3);
+    let length = &file[offset + 2..offset + 2 + width];
+    let count = length.iter().fold(0, |sum, byte| sum << 8 | *byte as u128);
+    1 + width as u128 + count * each
 }
 
 /// How often a reader has sought, and where last.

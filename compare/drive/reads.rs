@@ -160,7 +160,8 @@ struct Judge {
     places: u64,
     dates: u64,
     depths: u64,
-    added: u64,
+    /// By document 02's number.
+    added: [u64; 256],
     differences: u64,
     smallest: Option<(Vec<u8>, String)>,
 }
@@ -170,7 +171,8 @@ enum Outcome {
     Ended(u8, bool),
     Date,
     Depth,
-    Added,
+    /// An object that document 02 refuses, with the number.
+    Added(u8),
 }
 
 impl Judge {
@@ -185,7 +187,7 @@ impl Judge {
             places: 0,
             dates: 0,
             depths: 0,
-            added: 0,
+            added: [0; 256],
             differences: 0,
             smallest: None,
         }
@@ -205,7 +207,7 @@ impl Judge {
             }
             Ok(Outcome::Date) => self.dates += 1,
             Ok(Outcome::Depth) => self.depths += 1,
-            Ok(Outcome::Added) => self.added += 1,
+            Ok(Outcome::Added(number)) => self.added[number as usize] += 1,
             Err(difference) => self.differs(family, file, difference),
         }
     }
@@ -231,7 +233,8 @@ impl Judge {
                     (item, _) => return Err(format!("event {item:?}, the crate's a date")),
                 },
                 Answer::Added(number, offset) => {
-                    return ends(&got, at, number.into(), 0, Some(offset)).map(|_| Outcome::Added)
+                    return ends(&got, at, number.into(), 0, Some(offset))
+                        .map(|_| Outcome::Added(number))
                 }
                 Answer::Depth => return ends(&got, at, 15, 0, None).map(|_| Outcome::Depth),
                 Answer::End => return ends(&got, at, ours::ENDED, 0, Some(0)),
@@ -277,8 +280,8 @@ impl Judge {
         }
         println!("{:>10} of these with a place that is compared", self.places);
         println!(
-            "outside: {} at a date, {} at the 65th open container, {} at an odd length byte",
-            self.dates, self.depths, self.added
+            "outside: {} at a date, {} at the 65th open container, {} at an odd length byte (31), {} at an object that crosses T (6)",
+            self.dates, self.depths, self.added[31], self.added[6]
         );
         if let Some((file, difference)) = &self.smallest {
             println!(

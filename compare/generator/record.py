@@ -156,14 +156,14 @@ def tape_list(oracle):
 
 
 def check_reader(chosen):
-    """Every refusal that the crate's reader can give must stand at several places; 3 has but one."""
+    """Every refusal that the crate's reader can give must stand at several places; 2 and 3 have but one."""
     found = {}
     for _, _, block in chosen:
         match = re.search(r"(?m)^refused (\d+) at (\d+)$", block)
         if match:
             found.setdefault(int(match[1]), set()).add(match[2])
     for number in range(2, 15):
-        least = 1 if number == 3 else 4
+        least = 1 if number in (2, 3) else 4
         if len(found.get(number, ())) < least:
             sys.exit(f"record: refusal {number} stands at too few places")
 

@@ -5,7 +5,7 @@ use mathlib.Core.Path.{_≡_, refl, ap}
 use Prim.Native.Nat.{ℕ, suc, _+_, _*_, _≤_, _<_}
 use native.Mathlib.Numerals.{add-one}
 use native.Mathlib.Omega.{arith}
-use borrow.Author.Tests.{leb-true, eqb-true, ltb-true, ltb-false, lt-ltb, le-ltb, ne-eqb, eqb-false}
+use borrow.Author.Tests.{leb-true, eqb-true, ne-eqb}
 use lib.Dec.{ltb, leb, eqb}
 use lib.ListN.{length, getD}
 use Rattle.number.specs.Among.{among, among-more, among-not}
@@ -22,7 +22,7 @@ use Rattle.layout.specs.LookLaws.{Looked-right, look-right, Laid, never-missing
 use Rattle.number.specs.Either.{either}
 use Rattle.layout.specs.Layout.{lookOf, sourceOf}
 use Rattle.layout.specs.Looked.{Looked, barred, missing, faulty, scalar, container, Shape}
-use Rattle.layout.specs.Trailer.{Trailer, keeps, lays, begins, eightAt, tableOf, refSizeOf, sizesOf, trailerOf}
+use Rattle.layout.specs.Trailer.{Trailer, lays, begins, eightAt, tableOf, refSizeOf, sizesOf, trailerOf}
 use Rattle.layout.specs.declared.layout.Due.{Due}
 use Rattle.layout.specs.declared.layout.Due.the-variants.{Wrong, Close, Member}
 use Rattle.layout.specs.declared.layout.Layout.{Layout}
@@ -33,12 +33,11 @@ use Rattle.reader.specs.declared.state.Reader.{Reader}
 use Rattle.claims.specs.Calls.{runs, answerOf}
 use Rattle.claims.specs.Ended.{Done, done-ended, done-answers}
 
--- which refusals leave the state unchanged: 1, 3, 4, 16 and 17; 2 "in the trailer", that is of a fresh reader on a file with no room for
--- one; 5 "if the byte is 0". All others end
-unfoldable pub unchanged : List ℕ → Reader → ℕ → Bool
-unchanged file r number =
+-- which refusals leave the state unchanged: 1 to 4, 16 and 17; 5 if the byte is 0. All others end
+unfoldable pub unchanged : List ℕ → ℕ → Bool
+unchanged file number =
     cond (eqb number 1) true
-    (cond (eqb number 2) (r .fresh && ltb (length file) 32)
+    (cond (eqb number 2) true
     (cond (eqb number 3) true
     (cond (eqb number 4) true
     (cond (eqb number 5) (eqb (getD file (trailerAt file + 7) 0) 0)
@@ -49,15 +48,15 @@ unchanged file r number =
 abbrev pub After : List ℕ → Reader → Reader → Said → Type 0
 After file r s (event e) = Unit {0}
 After file r s ended = (s ≡ r) × Done r
-After file r s (refused number values place) = s ≡ cond (unchanged file r number) r endedReader
+After file r s (refused number values place) = s ≡ cond (unchanged file number) r endedReader
 
 module _ (file : List ℕ) (r : Reader) where
-  -- the refusals of an object and of a reference, 14 and 15 end, but for 2
-  pub listed-ends : (number : ℕ) → among endRefusals number ≡ true → (number ≡ 2 → ⊥) → unchanged file r number ≡ false
+  -- the refusals of an object and of a reference, 14 and 15 end
+  pub listed-ends : (number : ℕ) → among endRefusals number ≡ true → unchanged file number ≡ false
   unfolding unchanged endRefusals lookRefusals objectRefusals among
-  listed-ends number h k =
+  listed-ends number h =
       let no : (m : ℕ) → among endRefusals m ≡ false → eqb number m ≡ false = λ m n. ne-eqb number m (among-not endRefusals number m h n) in
-      rw (no 1 refl, ne-eqb number 2 k, no 3 refl, no 4 refl, no 5 refl, no 16 refl, no 17 refl)
+      rw (no 1 refl, no 2 refl, no 3 refl, no 4 refl, no 5 refl, no 16 refl, no 17 refl)
 
   abbrev Leaves : Step → Type 0
   Leaves x = After file r (x .state) (x .answer)
@@ -66,87 +65,71 @@ module _ (file : List ℕ) (r : Reader) where
   unfolding unchanged
   wrong-leaves = refl
 
-  -- not in the trailer: the reader isn't fresh, or there is room for a trailer
-  module _ (inside : (r .fresh && ltb (length file) 32) ≡ false) where
-    faults-end : (number : ℕ) → Faults number → unchanged file r number ≡ false
-    unfolding unchanged endRefusals
-    faults-end number h = go (eqb number 2) refl
-      where
-        go : (b : Bool) → eqb number 2 ≡ b → unchanged file r number ≡ false
-        go true e = rw (eqb-true number 2 e) inside
-        go false e = listed-ends number (among-more 14 _ number (among-more 15 _ number h)) (eqb-false number 2 e)
+  faults-end : (number : ℕ) → Faults number → unchanged file number ≡ false
+  unfolding endRefusals
+  faults-end number h = listed-ends number (among-more 14 _ number (among-more 15 _ number h))
 
-    enter-leaves : (s : Reader) (n : ℕ) (shape : Shape) (k offset : ℕ) → Leaves (enter s n shape k offset)
-    unfolding enter unchanged
-    enter-leaves s n shape k offset = either Leaves (memberOf (openOf s) n) _ _ (λ e. refl) (λ e. either Leaves (leb maxOpen (s .depth)) _ _ (λ e. refl) (λ e. tt))
+  enter-leaves : (s : Reader) (n : ℕ) (shape : Shape) (k offset : ℕ) → Leaves (enter s n shape k offset)
+  unfolding enter unchanged
+  enter-leaves s n shape k offset = either Leaves (memberOf (openOf s) n) _ _ (λ e. refl) (λ e. either Leaves (leb maxOpen (s .depth)) _ _ (λ e. refl) (λ e. tt))
 
-    arrive-leaves : (s : Reader) (l : Layout) (n : ℕ) (x : Looked) → Looked-right file l n x → (x ≡ missing → s ≡ r) → Leaves (arrive s n x)
-    unfolding arrive unchanged
-    arrive-leaves s l n (barred number values) k m = rw (faults-end number k)
-    arrive-leaves s l n missing k m = m refl
-    arrive-leaves s l n (faulty number values place) k m = rw (faults-end number k)
-    arrive-leaves s l n (scalar e offset) k m = tt
-    arrive-leaves s l n (container shape k offset) st m = enter-leaves s n shape k offset
+  arrive-leaves : (s : Reader) (l : Layout) (n : ℕ) (x : Looked) → Looked-right file l n x → (x ≡ missing → s ≡ r) → Leaves (arrive s n x)
+  unfolding arrive unchanged
+  arrive-leaves s l n (barred number values) k m = rw (faults-end number k)
+  arrive-leaves s l n missing k m = m refl
+  arrive-leaves s l n (faulty number values place) k m = rw (faults-end number k)
+  arrive-leaves s l n (scalar e offset) k m = tt
+  arrive-leaves s l n (container shape k offset) st m = enter-leaves s n shape k offset
 
-    follow-leaves : (l : Layout) (d : Due) → Leaves (follow (sourceOf file l) r d)
-    unfolding follow sourceOf
-    follow-leaves l Wrong = wrong-leaves
-    follow-leaves l (Close offset) = tt
-    follow-leaves l (Member n) = arrive-leaves r l n (lookOf file l n) (look-right file l n) (λ e. refl)
+  follow-leaves : (l : Layout) (d : Due) → Leaves (follow (sourceOf file l) r d)
+  unfolding follow sourceOf
+  follow-leaves l Wrong = wrong-leaves
+  follow-leaves l (Close offset) = tt
+  follow-leaves l (Member n) = arrive-leaves r l n (lookOf file l n) (look-right file l n) (λ e. refl)
 
-    refs-leaves : (offsets : Width) (s : Size) → Leaves (withRefs file r offsets s)
-    unfolding withRefs stepOf
-    refs-leaves offsets (Allowed refs) = follow-leaves _ (sourceOf file _ .due (innermost r))
-    refs-leaves offsets NotAllowed = wrong-leaves
+  refs-leaves : (offsets : Width) (s : Size) → Leaves (withRefs file r offsets s)
+  unfolding withRefs stepOf
+  refs-leaves offsets (Allowed refs) = follow-leaves _ (sourceOf file _ .due (innermost r))
+  refs-leaves offsets NotAllowed = wrong-leaves
 
-    go-leaves : (s t : Size) → Leaves (goOn file r s t)
-    unfolding goOn
-    go-leaves (Allowed offsets) t = refs-leaves offsets t
-    go-leaves NotAllowed t = wrong-leaves
+  go-leaves : (s t : Size) → Leaves (goOn file r s t)
+  unfolding goOn
+  go-leaves (Allowed offsets) t = refs-leaves offsets t
+  go-leaves NotAllowed t = wrong-leaves
 
   -- the trailer
-  module _ (new : r .fresh ≡ true) where
-    abbrev Begins : Trailer → Type 0
-    Begins t = Leaves (begin file r t)
+  abbrev Begins : Trailer → Type 0
+  Begins t = Leaves (begin file r t)
 
-    short-leaves : length file < 32 → Leaves (begin file r (keeps 2 [] 0))
-    unfolding begin unchanged
-    short-leaves h = rw (new, lt-ltb (length file) 32 h)
+  laid-leaves : (l : Layout) (root : ℕ) → Laid file l → Leaves (begin file r (lays l root))
+  unfolding begin
+  laid-leaves l root laid =
+      arrive-leaves (laidOut file l) l root (lookOf file l root) (look-right file l root) (λ e. absurd (never-missing file l laid root e))
 
-    module _ (long : 32 ≤ length file) where
-      never-short : (b : Bool) → (b && ltb (length file) 32) ≡ false
-      never-short true = le-ltb _ _ long
-      never-short false = refl
+  table-leaves : (offsets refs : Width) → Leaves (begin file r (tableOf file offsets refs))
+  unfolding tableOf begin unchanged
+  table-leaves offsets refs = either Begins (leb (eightAt file 24 + eightAt file 8 * bytesIn offsets) (trailerAt file)) _ _ (λ e. laid-leaves _ (eightAt file 16) (leb-true _ _ e)) (λ e. refl)
 
-      laid-leaves : (l : Layout) (root : ℕ) → Laid file l → Leaves (begin file r (lays l root))
-      unfolding begin
-      laid-leaves l root laid =
-          arrive-leaves (never-short (r .fresh)) (laidOut file l) l root (lookOf file l root) (look-right file l root) (λ e. absurd (never-missing file l laid root e))
+  ref-leaves : (offsets : Width) (s : Size) → Leaves (begin file r (refSizeOf file offsets s))
+  unfolding refSizeOf begin unchanged
+  ref-leaves offsets (Allowed refs) = table-leaves offsets refs
+  ref-leaves offsets NotAllowed = either Begins (eqb (getD file (trailerAt file + 7) 0) 0) _ _ (λ e. rw e) (λ e. rw e)
 
-      table-leaves : (offsets refs : Width) → Leaves (begin file r (tableOf file offsets refs))
-      unfolding tableOf begin unchanged
-      table-leaves offsets refs = either Begins (leb (eightAt file 24 + eightAt file 8 * bytesIn offsets) (trailerAt file)) _ _ (λ e. laid-leaves _ (eightAt file 16) (leb-true _ _ e)) (λ e. refl)
+  sizes-leaves : (s : Size) → Leaves (begin file r (sizesOf file s))
+  unfolding sizesOf begin unchanged
+  sizes-leaves (Allowed offsets) = ref-leaves offsets (widthOf (getD file (trailerAt file + 7) 0))
+  sizes-leaves NotAllowed = refl
 
-      ref-leaves : (offsets : Width) (s : Size) → Leaves (begin file r (refSizeOf file offsets s))
-      unfolding refSizeOf begin unchanged
-      ref-leaves offsets (Allowed refs) = table-leaves offsets refs
-      ref-leaves offsets NotAllowed = either Begins (eqb (getD file (trailerAt file + 7) 0) 0) _ _ (λ e. rw e) (λ e. rw e)
-
-      sizes-leaves : (s : Size) → Leaves (begin file r (sizesOf file s))
-      unfolding sizesOf begin unchanged
-      sizes-leaves (Allowed offsets) = ref-leaves offsets (widthOf (getD file (trailerAt file + 7) 0))
-      sizes-leaves NotAllowed = refl
-
-    begin-leaves : Leaves (begin file r (trailerOf file))
-    unfolding trailerOf begin unchanged
-    begin-leaves =
-        either Begins (ltb (length file) 8) _ _
-        (λ e. short-leaves (omega (arith, ltb-true (length file) 8 e)))
-        (λ e. either Begins (begins magic file) _ _
-        (λ e. either Begins (ltb (length file) 32) _ _
-        (λ e. short-leaves (ltb-true _ _ e))
-        (λ e. sizes-leaves (ltb-false _ _ e) (widthOf (getD file (trailerAt file + 6) 0))))
-        (λ e. refl))
+  begin-leaves : Leaves (begin file r (trailerOf file))
+  unfolding trailerOf begin unchanged
+  begin-leaves =
+      either Begins (ltb (length file) 8) _ _
+      (λ e. refl)
+      (λ e. either Begins (begins magic file) _ _
+      (λ e. either Begins (ltb (length file) 32) _ _
+      (λ e. refl)
+      (λ e. sizes-leaves (widthOf (getD file (trailerAt file + 6) 0))))
+      (λ e. refl))
 
   both : (a b : Bool) → (not a && b) ≡ true → (a ≡ false) × (b ≡ true)
   both true b e = let z : _≡_ {A = ℕ} 0 1 = cc in absurd (omega arith)
@@ -158,18 +141,18 @@ module _ (file : List ℕ) (r : Reader) where
       either Leaves (not (r .fresh) && eqb (r .depth) 0) _ _
       (λ e. let t = both (r .fresh) (eqb (r .depth) 0) e in (refl, record { old = t .0; none = eqb-true _ _ (t .1) }))
       (λ e. either Leaves (ltb maxLength (length file)) _ _ (λ e. refl)
-      (λ e. either Leaves (r .fresh) _ _ begin-leaves
-      (λ f. either Leaves (not (eqb (r .length) (length file))) _ _ (λ e. wrong-leaves)
+      (λ e. either Leaves (r .fresh) _ _ (λ e. begin-leaves)
+      (λ e. either Leaves (not (eqb (r .length) (length file))) _ _ (λ e. wrong-leaves)
       (λ e. either Leaves (ltb maxOpen (r .depth)) _ _ (λ e. wrong-leaves)
-      (λ e. go-leaves (ap (λ (b : Bool). b && ltb (length file) 32) f) (widthOf (r .offsets)) (widthOf (r .refs)))))))
+      (λ e. go-leaves (widthOf (r .offsets)) (widthOf (r .refs)))))))
 
   -- the state after a refusal
-  pub state-after : (number : ℕ) (values : List ℕ) (place : ℕ) → nextOf file r .answer ≡ refused number values place → nextOf file r .state ≡ cond (unchanged file r number) r endedReader
+  pub state-after : (number : ℕ) (values : List ℕ) (place : ℕ) → nextOf file r .answer ≡ refused number values place → nextOf file r .state ≡ cond (unchanged file number) r endedReader
   state-after number values place a = rw a at leaves
 
   -- those refusals end, whatever the file and the state
-  pub refusal-ends : (number : ℕ) (values : List ℕ) (place : ℕ) → nextOf file r .answer ≡ refused number values place → among endRefusals number ≡ true → (number ≡ 2 → ⊥) → nextOf file r .state ≡ endedReader
-  refusal-ends number values place a h k = rw (listed-ends number h k) at (state-after number values place a)
+  pub refusal-ends : (number : ℕ) (values : List ℕ) (place : ℕ) → nextOf file r .answer ≡ refused number values place → among endRefusals number ≡ true → nextOf file r .state ≡ endedReader
+  refusal-ends number values place a h = rw (listed-ends number h) at (state-after number values place a)
 
   -- the answer ended comes of an ended state, which it leaves
   pub after-ended : nextOf file r .answer ≡ ended → Done (nextOf file r .state)
@@ -183,8 +166,8 @@ unfolding answerOf runs
 ended-again file n m a = rw add-one (done-answers file (suc n) (after-ended file (runs file n) a) m)
 
 -- and so it is after such a refusal
-pub ended-after-refusal : (file : List ℕ) (n m number : ℕ) (values : List ℕ) (place : ℕ) → answerOf file n ≡ refused number values place → among endRefusals number ≡ true → (number ≡ 2 → ⊥)
+pub ended-after-refusal : (file : List ℕ) (n m number : ℕ) (values : List ℕ) (place : ℕ) → answerOf file n ≡ refused number values place → among endRefusals number ≡ true
     → answerOf file (n + 1 + m) ≡ ended
 unfolding answerOf runs
-ended-after-refusal file n m number values place a h k =
-    rw add-one (done-answers file (suc n) (rw (refusal-ends file (runs file n) number values place a h k) done-ended) m)
+ended-after-refusal file n m number values place a h =
+    rw add-one (done-answers file (suc n) (rw (refusal-ends file (runs file n) number values place a h) done-ended) m)

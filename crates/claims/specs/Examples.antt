@@ -11,7 +11,7 @@ use Rattle.event.specs.declared.Event.the-variants.{StartArray}
 use Rattle.event.specs.declared.Length.the-variants.{Given}
 use Rattle.object.specs.Refusal.{numberOf as objectNumber, valuesOf as objectValues}
 use Rattle.object.specs.Container.{containerOf, containerAt, arrayOf, dictionaryOf}
-use Rattle.object.specs.Content.{lengthWidth, extentAt, roomFor, contentAt, measured, hasLength, isLengthByte, headAt}
+use Rattle.object.specs.Content.{lengthWidth, extentAt, endsBefore, contentAt, measured, hasLength, isLengthByte, headAt}
 use Rattle.object.specs.Kind.{kindOf}
 use Rattle.object.specs.Object.{arrayIn, byKind, objectAt, fixedAt, refusedBy}
 use Rattle.layout.specs.Layout.{numberAt, entryAt, given, dueAt, inArray, dueIn, standsFrom, standsAt, dueOf, lookIn, lookFrom, lookOf, sourceOf}
@@ -29,7 +29,7 @@ unfoldable pub itself : List ℕ
 itself = magic ++ (0xA1 ∷ 0x00 ∷ 0x08 ∷ 0 ∷ 0 ∷ 0 ∷ 0 ∷ 0 ∷ 0 ∷ 1 ∷ 1 ∷ []) ++ bytesOf 8 1 ++ bytesOf 8 0 ++ bytesOf 8 10
 
 pub answers : (answerOf itself 0 ≡ eventAt (StartArray (Given 1)) 8) × ((answerOf itself 1 ≡ refused 14 [] 8) × (answerOf itself 2 ≡ ended))
-unfolding itself runs answerOf nextOf begin laidOut withRefs goOn trailerOf sizesOf refSizeOf tableOf eightAt begins magic be onto bytesOf bytesIn widthOf containerOf arrayOf dictionaryOf containerAt lengthWidth extentAt roomFor contentAt measured headAt hasLength isLengthByte kindOf arrayIn byKind fixedAt refusedBy objectNumber objectValues objectAt numberAt entryAt given dueAt inArray dueIn standsFrom standsAt dueOf lookIn lookFrom lookOf sourceOf startOf enter arrive follow stepOf openOf innermost memberOf nextIn advanced passed entered closed
+unfolding itself runs answerOf nextOf begin laidOut withRefs goOn trailerOf sizesOf refSizeOf tableOf eightAt begins magic be onto bytesOf bytesIn widthOf containerOf arrayOf dictionaryOf containerAt lengthWidth extentAt endsBefore contentAt measured headAt hasLength isLengthByte kindOf arrayIn byKind fixedAt refusedBy objectNumber objectValues objectAt numberAt entryAt given dueAt inArray dueIn standsFrom standsAt dueOf lookIn lookFrom lookOf sourceOf startOf enter arrive follow stepOf openOf innermost memberOf nextIn advanced passed entered closed
 answers = (refl, (refl, refl))
 
 -- `A3 01 02 01`, and `D2 01 02 03 04`: two keys, then their values; nothing where no container stands

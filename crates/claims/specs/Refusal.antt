@@ -150,16 +150,16 @@ request-refused file scratch q number values place e = go (ltb maxLength (length
         (too-long p t, rw f)
     go false f = rw f (asked-refused file scratch (q .offset) (eventAsked file (q .event) (q .offset)) (event-wrong file (q .offset) (q .event)) number values place (rw f at e))
 
-asking-keeps : (file : List ℕ) (r : Reader) (offset number place : ℕ) → Asking offset number place → unchanged file r number ≡ true
+asking-keeps : (file : List ℕ) (offset number place : ℕ) → Asking offset number place → unchanged file number ≡ true
 unfolding unchanged
-asking-keeps file r offset number place (too-long e h) = rw e
-asking-keeps file r offset number place (no-room e h) = rw e
-asking-keeps file r offset number place (wrong-file e h) = rw e
+asking-keeps file offset number place (too-long e h) = rw e
+asking-keeps file offset number place (no-room e h) = rw e
+asking-keeps file offset number place (wrong-file e h) = rw e
 
 -- the state after any refusal, of a step or of a text request, is the one before or the ended one, as its number says; and the scratch is as it was
 pub refusal-leaves : (file scratch : List ℕ) (r s : Reader) (t : List ℕ) (number : ℕ) (values : List ℕ) (place : ℕ) → Refused file scratch r number values place s t
-    → (s ≡ cond (unchanged file r number) r endedReader) × (t ≡ scratch)
+    → (s ≡ cond (unchanged file number) r endedReader) × (t ≡ scratch)
 refusal-leaves file scratch r s t number values place (by-step e) = (state-after file r number values place e, refl)
 refusal-leaves file scratch r s t number values place (by-request q e) =
     let a = request-refused file scratch q number values place e in
-    (rw (asking-keeps file r (q .offset) number place (a .0)), a .1)
+    (rw (asking-keeps file (q .offset) number place (a .0)), a .1)

@@ -64,18 +64,24 @@ pub sound : (file : List ℕ) (refs : Width) (offset : ℕ) → Sound file (byte
 unfolding made refsOf
 sound file refs offset = go (objectAt file refs offset) (known file refs offset)
   where
-    few : (n : ℕ) → n * bytesIn refs ≤ trailerAt file → n ≤ trailerAt file
-    few n h = omega (arith, le-mul-of-pos-right n (bytesIn-pos refs))
+    within : (m : ℕ) → m ≤ trailerAt file → m ≤ length file
+    within m h = omega arith
+
+    few : (start n : ℕ) → start + n * bytesIn refs ≤ trailerAt file → n ≤ trailerAt file
+    few start n h = omega (arith, le-mul-of-pos-right n (bytesIn-pos refs))
+
+    both : (start n : ℕ) → start + 2 * n * bytesIn refs ≤ trailerAt file → n ≤ trailerAt file
+    both start n h = omega (arith, le-mul-of-pos-right (2 * n) (bytesIn-pos refs))
 
     go : (x : Found) → Known file refs offset x → Sound file (bytesIn refs) x (objectAt file One offset) (containerAt file offset)
     go found.outside k = tt
     go (found.refused number values) k = object-refusal number k
     go (found.scalar e) k = (k .0 One, k .1)
-    go (found.bytes start n) k = (k .again One, k .inside)
-    go (found.utf8 start n) k = (k .0 .again One, k .0 .inside, k .1)
-    go (found.utf16 start n) k = (k .0 .again One, k .0 .inside, k .1)
-    go (found.array n) k = record { extent = k .extent; is = k .stands; counts = k .counts; few = few n (k .few); inside = k .inside }
-    go (found.dictionary n) k = record { extent = k .extent; is = k .stands; counts = k .counts; few = few n (k .few); inside = k .inside }
+    go (found.bytes start n) k = (k .again One, within _ (k .ends))
+    go (found.utf8 start n) k = (k .0 .again One, within _ (k .0 .ends), k .1)
+    go (found.utf16 start n) k = (k .0 .again One, within _ (k .0 .ends), k .1)
+    go (found.array n) k = record { extent = k .extent; is = k .stands; counts = k .counts; few = few (k .extent .start) n (k .ends); inside = within _ (k .ends) }
+    go (found.dictionary n) k = record { extent = k .extent; is = k .stands; counts = k .counts; few = both (k .extent .start) n (k .ends); inside = within _ (k .ends) }
 
 -- where the bytes of what is found stand
 unfoldable pub foundBytes : Found → Asked

@@ -64,7 +64,6 @@ fn refusal_of(refusal: object::refusal::Refusal) -> Refusal
     ensures { λ r. ⌜ Same refusal r ⌝ }
 {
     match refusal {
-        object::refusal::Refusal::EndOfInput => Refusal::EndOfInput,
         object::refusal::Refusal::ObjectOffsetTooLarge => Refusal::ObjectOffsetTooLarge,
         object::refusal::Refusal::NullObjectUnimplemented => Refusal::NullObjectUnimplemented,
         object::refusal::Refusal::FillObjectUnimplemented => Refusal::FillObjectUnimplemented,

@@ -1,4 +1,5 @@
 -- Document 01's worked cases that are about one object, computed. The trailer is all zeros: no rule of one object reads it.
+use mathlib.Core.Bool.{false}
 use mathlib.Core.List.{List, [], _∷_, _++_}
 use mathlib.Core.Path.{_≡_, refl}
 use Prim.Native.Nat.{ℕ, _≤_}
@@ -12,9 +13,9 @@ use Rattle.number.specs.Signed.{signedOf}
 use Rattle.number.specs.Width.{bytesIn}
 use Rattle.number.specs.declared.width.Width.the-variants.{One}
 use Rattle.number.specs.declared.width.Width.{Width}
-use Rattle.event.specs.declared.Event.the-variants.{Integer}
+use Rattle.event.specs.declared.Event.the-variants.{Boolean, Integer}
 use Rattle.event.specs.declared.Integer.the-variants.{Signed, Unsigned}
-use Rattle.object.specs.Content.{trailerAt, lengthWidth, extentAt, isLengthByte, hasLength, headAt, roomFor, measured, contentAt, pairsIn, pairsAt}
+use Rattle.object.specs.Content.{trailerAt, lengthWidth, extentAt, isLengthByte, hasLength, headAt, endsBefore, measured, contentAt}
 use Rattle.object.specs.Kind.{kindOf}
 use Rattle.object.specs.Object.{Found, refused, refusedBy, scalar, bytes, utf16, fixedAt, wideIn, dataIn, utf16In, dictionaryIn, byKind, objectAt}
 use Rattle.object.specs.ObjectLaws.{object-inside}
@@ -26,48 +27,54 @@ found s offset = objectAt (s ++ replicate 32 0) One offset
 
 -- P2: `10 FF` is 255
 pub p2 : found (0x10 ∷ 0xFF ∷ []) 0 ≡ scalar (Integer (Unsigned 255))
-unfolding objectAt byKind kindOf be onto fixedAt
+unfolding objectAt byKind kindOf be onto fixedAt endsBefore
 p2 = refl
 
 -- P3: `13 80` and seven `00` is -9,223,372,036,854,775,808; `negsuc k` is -1 - k
 pub p3 : found (0x13 ∷ 0x80 ∷ replicate 7 0) 0 ≡ scalar (Integer (Signed (negsuc 9_223_372_036_854_775_807)))
-unfolding objectAt byKind kindOf be onto fixedAt signedOf
+unfolding objectAt byKind kindOf be onto fixedAt endsBefore signedOf
 p3 = refl
 
 -- P4: `14`, eight `00`, eight `FF` is 18,446,744,073,709,551,615
 pub p4 : found (0x14 ∷ replicate 8 0 ++ replicate 8 0xFF) 0 ≡ scalar (Integer (Unsigned 18_446_744_073_709_551_615))
-unfolding objectAt byKind kindOf be onto fixedAt wideIn refusedBy numberOf valuesOf
+unfolding objectAt byKind kindOf be onto fixedAt endsBefore wideIn refusedBy numberOf valuesOf
 p4 = refl
 
 -- P5: sixteen `FF` gives 11
 pub p5 : found (0x14 ∷ replicate 16 0xFF) 0 ≡ refused 11 []
-unfolding objectAt byKind kindOf be onto fixedAt wideIn refusedBy numberOf valuesOf
+unfolding objectAt byKind kindOf be onto fixedAt endsBefore wideIn refusedBy numberOf valuesOf
 p5 = refl
 
 -- P6: `4F 10 02 AB CD` is data; `4F 50 02 AB CD` and `4F 14 02 AB CD` give 31
 pub p6 : (found (0x4F ∷ 0x10 ∷ 0x02 ∷ 0xAB ∷ 0xCD ∷ []) 0 ≡ bytes 3 2) × (found (0x4F ∷ 0x50 ∷ 0x02 ∷ 0xAB ∷ 0xCD ∷ []) 0 ≡ refused 31 []) × (found (0x4F ∷ 0x14 ∷ 0x02 ∷ 0xAB ∷ 0xCD ∷ []) 0 ≡ refused 31 [])
-unfolding objectAt byKind kindOf be onto dataIn refusedBy numberOf valuesOf contentAt measured headAt hasLength isLengthByte roomFor extentAt lengthWidth
+unfolding objectAt byKind kindOf be onto dataIn refusedBy numberOf valuesOf contentAt measured headAt hasLength isLengthByte endsBefore extentAt lengthWidth
 p6 = (refl, refl, refl)
 
 -- P7: `61 D8 00` gives 13
 pub p7 : found (0x61 ∷ 0xD8 ∷ 0x00 ∷ []) 0 ≡ refused 13 []
-unfolding objectAt byKind kindOf utf16In refusedBy numberOf valuesOf contentAt measured headAt hasLength isLengthByte roomFor extentAt isUtf16 isEven paired unitsOf isHigh
+unfolding objectAt byKind kindOf utf16In refusedBy numberOf valuesOf contentAt measured headAt hasLength isLengthByte endsBefore extentAt isUtf16 isEven paired unitsOf isHigh
 p7 = refl
 
 abbrev magic : List ℕ
 magic = 0x62 ∷ 0x70 ∷ 0x6C ∷ 0x69 ∷ 0x73 ∷ 0x74 ∷ 0x30 ∷ 0x30 ∷ []
 
--- P8: offset 0 (T at least 4) reads `62`: text of two units, whatever follows the magic
-pub p8 : (rest : List ℕ) (refs : Width) → 4 ≤ trailerAt (magic ++ rest) → objectAt (magic ++ rest) refs 0 ≡ utf16 1 4
-unfolding byKind kindOf utf16In refusedBy numberOf valuesOf contentAt measured headAt hasLength isLengthByte roomFor extentAt isUtf16 isEven paired unitsOf isHigh isLow
-p8 rest refs h = rw (object-inside (magic ++ rest) refs 0 (omega arith), le-leb 4 (trailerAt (magic ++ rest)) h)
+-- P8: offset 0 (T at least 5) reads `62`: text of two units, whatever follows the magic
+pub p8 : (rest : List ℕ) (refs : Width) → 5 ≤ trailerAt (magic ++ rest) → objectAt (magic ++ rest) refs 0 ≡ utf16 1 4
+unfolding byKind kindOf utf16In refusedBy numberOf valuesOf contentAt measured headAt hasLength isLengthByte endsBefore extentAt isUtf16 isEven paired unitsOf isHigh isLow
+p8 rest refs h = rw (object-inside (magic ++ rest) refs 0 (omega arith), le-leb 5 (trailerAt (magic ++ rest)) h)
 
--- "Table byte `09` at 8, T = 10: `41` at 9 gives data `00` (trailer padding); `42` gives 6"
-pub padding : (found (magic ++ 0x09 ∷ 0x41 ∷ []) 9 ≡ bytes 10 1) × (found (magic ++ 0x09 ∷ 0x42 ∷ []) 9 ≡ refused 6 [])
-unfolding objectAt byKind kindOf dataIn refusedBy numberOf valuesOf contentAt measured headAt hasLength isLengthByte roomFor extentAt
-padding = (refl, refl)
+-- T = 10: `41` at 9 would end at 11, in the trailer, and so would `10`; `08` there is false. `4F` there has its length byte in the trailer:
+-- 31 where that byte is none, 6 where it is
+pub crossing :
+    (found (magic ++ 0x09 ∷ 0x41 ∷ []) 9 ≡ refused 6 []) ×
+    (found (magic ++ 0x09 ∷ 0x10 ∷ []) 9 ≡ refused 6 []) ×
+    (found (magic ++ 0x09 ∷ 0x08 ∷ []) 9 ≡ scalar (Boolean false)) ×
+    (found (magic ++ 0x09 ∷ 0x4F ∷ []) 9 ≡ refused 31 []) ×
+    (objectAt (magic ++ 0x09 ∷ 0x4F ∷ 0x10 ∷ replicate 31 0) One 9 ≡ refused 6 [])
+unfolding objectAt byKind kindOf fixedAt endsBefore dataIn refusedBy numberOf valuesOf contentAt measured headAt hasLength isLengthByte extentAt lengthWidth be onto
+crossing = (refl, refl, refl, refl, refl)
 
--- "Object at 9, references of 1 byte, `DF 10 1D`, T = 38: 6; `DF 10 1E`, T = 39: 2"
-pub pairs : (found (magic ++ 0x00 ∷ 0xDF ∷ 0x10 ∷ 0x1D ∷ replicate 26 0) 9 ≡ refused 6 []) × (found (magic ++ 0x00 ∷ 0xDF ∷ 0x10 ∷ 0x1E ∷ replicate 27 0) 9 ≡ refused 2 [])
-unfolding objectAt byKind kindOf be onto dictionaryIn refusedBy numberOf valuesOf pairsAt pairsIn contentAt measured headAt hasLength isLengthByte roomFor extentAt lengthWidth bytesIn
+-- object at 9, references of 1 byte, `DF 10 1D`, T = 38, and `DF 10 1E`, T = 39: the values run past T
+pub pairs : (found (magic ++ 0x00 ∷ 0xDF ∷ 0x10 ∷ 0x1D ∷ replicate 26 0) 9 ≡ refused 6 []) × (found (magic ++ 0x00 ∷ 0xDF ∷ 0x10 ∷ 0x1E ∷ replicate 27 0) 9 ≡ refused 6 [])
+unfolding objectAt byKind kindOf be onto dictionaryIn refusedBy numberOf valuesOf contentAt measured headAt hasLength isLengthByte endsBefore extentAt lengthWidth bytesIn
 pairs = (refl, refl)

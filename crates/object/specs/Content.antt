@@ -1,4 +1,4 @@
--- The length of an object that has one, and the room it needs. docs/FORMAT.md, rules R12 to R14.
+-- The length of an object that has one, and the room it needs. docs/FORMAT.md, rules R12 and R13.
 use mathlib.Core.Bool.{Bool, true, cond, _&&_}
 use mathlib.Core.List.{List}
 use Prim.Native.Nat.{ℕ, _+_, _-_, _*_, _%_, _^_}
@@ -9,7 +9,7 @@ use Rattle.number.specs.Part.{part}
 use Rattle.object.specs.declared.content.Content.{Content}
 use Rattle.object.specs.declared.content.Content.the-variants.{Fits, Refused}
 use Rattle.object.specs.declared.content.Extent.{Extent}
-use Rattle.object.specs.declared.refusal.Refusal.the-variants.{EndOfInput, ObjectOffsetTooLarge, InvalidObjectLength}
+use Rattle.object.specs.declared.refusal.Refusal.the-variants.{ObjectOffsetTooLarge, InvalidObjectLength}
 
 -- T (R1)
 abbrev pub trailerAt : List ℕ → ℕ
@@ -39,26 +39,14 @@ hasLength file offset nibble = cond (eqb nibble 15) (isLengthByte (getD file (of
 unfoldable pub headAt : List ℕ → ℕ → ℕ → Content
 headAt file offset nibble = cond (hasLength file offset nibble) (Fits (extentAt file offset nibble)) (Refused InvalidObjectLength)
 
--- room: the object's own offset plus the size of its content must not be above T (R13)
-unfoldable pub roomFor : List ℕ → ℕ → ℕ → Bool
-roomFor file offset size = leb (offset + size) (trailerAt file)
+-- an object must end at or before T, head and content (R13). All that has bytes behind its marker is measured by this
+unfoldable pub endsBefore : List ℕ → ℕ → Bool
+endsBefore file end = leb end (trailerAt file)
 
-unfoldable pub measured : List ℕ → ℕ → ℕ → Content → Content
-measured file offset each (Refused r) = Refused r
-measured file offset each (Fits e) = cond (roomFor file offset (e .count * each)) (Fits e) (Refused ObjectOffsetTooLarge)
+unfoldable pub measured : List ℕ → ℕ → Content → Content
+measured file each (Refused r) = Refused r
+measured file each (Fits e) = cond (endsBefore file (e .start + e .count * each)) (Fits e) (Refused ObjectOffsetTooLarge)
 
 -- the content of an object whose elements have a number of bytes each
 unfoldable pub contentAt : List ℕ → ℕ → ℕ → ℕ → Content
-contentAt file offset nibble each = measured file offset each (headAt file offset nibble)
-
--- a dictionary's room: keys and values must end within the file, and then both together must have room (R14)
-unfoldable pub pairsIn : List ℕ → ℕ → ℕ → Content → Content
-pairsIn file offset each (Refused r) = Refused r
-pairsIn file offset each (Fits e) =
-    cond (leb (e .start + 2 * (e .count * each)) (length file))
-    (cond (roomFor file offset (2 * (e .count * each))) (Fits e) (Refused ObjectOffsetTooLarge))
-    (Refused EndOfInput)
-
--- the content of a dictionary: its keys are measured first, as an array is (R14)
-unfoldable pub pairsAt : List ℕ → ℕ → ℕ → ℕ → Content
-pairsAt file offset nibble each = pairsIn file offset each (contentAt file offset nibble each)
+contentAt file offset nibble each = measured file each (headAt file offset nibble)

@@ -1,4 +1,4 @@
--- Laws of content: where it begins, and what room it has.
+-- Laws of content: where it begins and where it ends.
 use mathlib.Core.Bool.{Bool, true, false, cond}
 use mathlib.Core.List.{List}
 use mathlib.Core.Path.{_≡_, refl}
@@ -6,10 +6,10 @@ use Prim.Native.Nat.{ℕ, _+_, _*_, _%_, _≤_, _<_}
 use native.Mathlib.Nat.{one-le-pow, pow-le-pow-right}
 use native.Mathlib.Omega.{arith}
 use borrow.Author.Tests.{leb-true}
-use lib.Dec.{leb, eqb, lit<}
-use lib.ListN.{length, getD}
+use lib.Dec.{eqb, lit<}
+use lib.ListN.{getD}
 use Rattle.number.specs.Either.{either}
-use Rattle.object.specs.Content.{trailerAt, lengthWidth, extentAt, hasLength, headAt, roomFor, measured, contentAt, pairsIn, pairsAt}
+use Rattle.object.specs.Content.{trailerAt, lengthWidth, extentAt, hasLength, headAt, endsBefore, measured, contentAt}
 use Rattle.object.specs.declared.content.Content.the-variants.{Fits, Refused}
 use Rattle.object.specs.declared.content.Content.{Content}
 use Rattle.object.specs.declared.content.Extent.{Extent}
@@ -52,22 +52,22 @@ module _ (file : List ℕ) (offset nibble : ℕ) (e : Extent) where
       let s : Fits (extentAt file offset nibble) ≡ Fits e = f .1 in
       cc
 
-  -- what is known of an extent that has room
+  -- what is known of an extent that ends at or before T
   pub record Fitting (each : ℕ) : Type 0 where
     pub head : headAt file offset nibble ≡ Fits e
     pub is : e ≡ extentAt file offset nibble
-    pub room : offset + e .count * each ≤ trailerAt file
+    pub ends : e .start + e .count * each ≤ trailerAt file
     pub above : offset < e .start
     pub below : e .start ≤ offset + 10
 
   pub fitting : (each : ℕ) → contentAt file offset nibble each ≡ Fits e → Fitting each
-  unfolding contentAt measured roomFor
+  unfolding contentAt measured endsBefore
   fitting each h = go (headAt file offset nibble) refl h
     where
-      go : (x : Content) → headAt file offset nibble ≡ x → measured file offset each x ≡ Fits e → Fitting each
+      go : (x : Content) → headAt file offset nibble ≡ x → measured file each x ≡ Fits e → Fitting each
       go (Refused r) t g = absurd (not-fits r e g)
       go (Fits d) t g =
-          let f = fits-by (roomFor file offset (d .count * each)) (Fits d) _ e g in
+          let f = fits-by (endsBefore file (d .start + d .count * each)) (Fits d) _ e g in
           let s : Fits d ≡ Fits e = f .1 in
           let i : d ≡ e = cc in
           let k : headAt file offset nibble ≡ Fits e = rw (← i) t in
@@ -75,25 +75,7 @@ module _ (file : List ℕ) (offset nibble : ℕ) (e : Extent) where
           record {
             head = k;
             is = j;
-            room = rw (← i) (leb-true _ _ (f .0));
+            ends = rw (← i) (leb-true _ _ (f .0));
             above = rw j (start-above file offset nibble);
             below = rw j (start-below file offset nibble);
           }
-
-  -- and of one that has room for pairs
-  pub record Pairing (each : ℕ) : Type 0 where
-    pub fits : Fitting each
-    pub inside : e .start + 2 * (e .count * each) ≤ length file
-
-  pub pairing : (each : ℕ) → pairsAt file offset nibble each ≡ Fits e → Pairing each
-  unfolding pairsAt pairsIn
-  pairing each h = go (contentAt file offset nibble each) refl h
-    where
-      go : (x : Content) → contentAt file offset nibble each ≡ x → pairsIn file offset each x ≡ Fits e → Pairing each
-      go (Refused r) t g = absurd (not-fits r e g)
-      go (Fits d) t g =
-          let f = fits-by (leb (d .start + 2 * (d .count * each)) (length file)) _ _ e g in
-          let k = fits-by (roomFor file offset (2 * (d .count * each))) (Fits d) _ e (f .1) in
-          let s : Fits d ≡ Fits e = k .1 in
-          let i : d ≡ e = cc in
-          record { fits = fitting each (rw (← i) t); inside = rw (← i) (leb-true _ _ (f .0)) }

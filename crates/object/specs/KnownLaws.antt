@@ -1,11 +1,11 @@
 -- What is known of a thing that is found at an offset, shown once over all markers: a refusal's number is in the list; scalars, data and text
--- are found whatever the width of a reference; a scalar carries all that it is; data and text lie within the file and are well formed; a
--- container is found again, and its references lie within the file.
+-- are found whatever the width of a reference; a scalar carries all that it is; data and text end at or before T and are well formed; a
+-- container is found again, and its references end there too.
 use mathlib.Core.Bool.{true}
 use mathlib.Core.List.{List}
 use mathlib.Core.Path.{_≡_, refl, _∙_}
 use Prim.Native.Nat.{ℕ, _+_, _*_, _^_, _≤_, _<_}
-use native.Mathlib.Nat.{mul-assoc}
+use native.Mathlib.Nat.{mul-assoc, mul-comm}
 use native.Mathlib.Omega.{arith}
 use borrow.Author.Tests.{ltb-true, ltb-false}
 use lib.Dec.{ltb}
@@ -24,8 +24,8 @@ use Rattle.event.specs.declared.Event.{Event}
 use Rattle.event.specs.declared.Event.the-variants.{StartArray, StartDictionary, EndCollection, Boolean, Data, Date, Integer, Real, Nan, String, Uid}
 use Rattle.object.specs.Container.{arrayOf, dictionaryOf, containerOf, containerAt}
 use Rattle.object.specs.ContainerLaws.{container-inside}
-use Rattle.object.specs.Content.{trailerAt, contentAt, pairsAt}
-use Rattle.object.specs.ContentLaws.{fitting, pairing}
+use Rattle.object.specs.Content.{trailerAt, endsBefore, contentAt}
+use Rattle.object.specs.ContentLaws.{fitting}
 use Rattle.object.specs.Kind.{kindOf}
 use Rattle.object.specs.Object.{Found, outside, refused, refusedBy, scalar, bytes, utf8, utf16, array, dictionary, fixedAt, unsignedIn, signedIn, wideIn, shortRealIn, realIn, dateIn, uidIn, dataIn, utf8In, utf16In, arrayIn, dictionaryIn, byKind, objectAt}
 use Rattle.object.specs.ObjectLaws.{object-inside}
@@ -54,25 +54,23 @@ Plain String = ⊥
 Plain (Uid n) = Unit {0}
 
 module _ (file : List ℕ) (refs : Width) (offset : ℕ) where
-  -- bytes of data or text: found with references of any width, and within the file
+  -- bytes of data or text: found with references of any width, and before T
   pub record Lying (x : Found) (start n : ℕ) : Type 0 where
     pub again : (w : Width) → objectAt file w offset ≡ x
-    pub inside : start + n ≤ length file
+    pub ends : start + n ≤ trailerAt file
 
   -- a container, so many references of its elements or pairs: it is found again where it is looked at once it is open
   pub record ArrayLying (n : ℕ) : Type 0 where
     pub extent : Extent
     pub stands : containerAt file offset ≡ Array extent
     pub counts : extent .count ≡ n
-    pub few : n * bytesIn refs ≤ trailerAt file
-    pub inside : extent .start + n * bytesIn refs ≤ length file
+    pub ends : extent .start + n * bytesIn refs ≤ trailerAt file
 
   pub record DictionaryLying (n : ℕ) : Type 0 where
     pub extent : Extent
     pub stands : containerAt file offset ≡ Dictionary extent
     pub counts : extent .count ≡ n
-    pub few : n * bytesIn refs ≤ trailerAt file
-    pub inside : extent .start + 2 * n * bytesIn refs ≤ length file
+    pub ends : extent .start + 2 * n * bytesIn refs ≤ trailerAt file
 
   abbrev pub Known : Found → Type 0
   Known outside = trailerAt file ≤ offset
@@ -95,6 +93,10 @@ module _ (file : List ℕ) (refs : Width) (offset : ℕ) where
 
     container-by-kind : containerAt file offset ≡ containerOf file offset k
     container-by-kind = container-inside file offset below ∙ rw marked
+
+  -- keys and values
+  twice : (start n : ℕ) → start + n * (2 * bytesIn refs) ≤ trailerAt file → start + 2 * n * bytesIn refs ≤ trailerAt file
+  twice start n h = rw (mul-comm 2 n, mul-assoc) h
 
   -- a scalar of fixed size, or its refusal
   abbrev Fixed : Found → Type 0
@@ -120,8 +122,10 @@ module _ (file : List ℕ) (refs : Width) (offset : ℕ) where
 
   fixed-known : offset < trailerAt file → (k : Kind) → kindOf (getD file offset 0) ≡ k → (width : ℕ) (read : List ℕ → Found)
       → ((w : Width) → byKind file w offset k ≡ fixedAt file offset width read) → ((s : List ℕ) → Fixed (read s)) → Known (fixedAt file offset width read)
-  unfolding fixedAt
-  fixed-known below k m width read is h = fixed (read (part file (offset + 1) width)) (λ w. by-kind below k m w ∙ is w) (h (part file (offset + 1) width))
+  unfolding fixedAt refusedBy
+  fixed-known below k m width read is h =
+      fixed (fixedAt file offset width read) (λ w. by-kind below k m w ∙ is w)
+      (either Fixed (endsBefore file (offset + 1 + width)) _ _ (λ e. h (part file (offset + 1) width)) (λ e. refusal-listed _))
 
   wide-known : (s : List ℕ) → Fixed (wideIn s)
   unfolding wideIn refusedBy
@@ -145,7 +149,7 @@ module _ (file : List ℕ) (refs : Width) (offset : ℕ) where
     data-known m (Refused r) h = by-refusal r
     data-known m (Fits e) h =
         let f = fitting file offset nibble e 1 h in
-        record { again = λ w. by-kind below (kind.Data nibble) m w ∙ rw h; inside = omega arith }
+        record { again = λ w. by-kind below (kind.Data nibble) m w ∙ rw h; ends = omega arith }
 
     utf8-known : kindOf (getD file offset 0) ≡ kind.Utf8 nibble → (x : Content) → contentAt file offset nibble 1 ≡ x → Known (utf8In file x)
     unfolding utf8In byKind
@@ -153,7 +157,7 @@ module _ (file : List ℕ) (refs : Width) (offset : ℕ) where
     utf8-known m (Fits e) h =
         let f = fitting file offset nibble e 1 h in
         either Known (isUtf8 (part file (e .start) (e .count))) _ _
-        (λ t. (record { again = λ w. by-kind below (kind.Utf8 nibble) m w ∙ rw (h, utf8In, t); inside = omega arith }, t))
+        (λ t. (record { again = λ w. by-kind below (kind.Utf8 nibble) m w ∙ rw (h, utf8In, t); ends = omega arith }, t))
         (λ t. by-refusal _)
 
     utf16-known : kindOf (getD file offset 0) ≡ kind.Utf16 nibble → (x : Content) → contentAt file offset nibble 2 ≡ x → Known (utf16In file x)
@@ -162,7 +166,7 @@ module _ (file : List ℕ) (refs : Width) (offset : ℕ) where
     utf16-known m (Fits e) h =
         let f = fitting file offset nibble e 2 h in
         either Known (isUtf16 (part file (e .start) (e .count * 2))) _ _
-        (λ t. (record { again = λ w. by-kind below (kind.Utf16 nibble) m w ∙ rw (h, utf16In, t); inside = omega arith }, t))
+        (λ t. (record { again = λ w. by-kind below (kind.Utf16 nibble) m w ∙ rw (h, utf16In, t); ends = omega arith }, t))
         (λ t. by-refusal _)
 
     array-known : kindOf (getD file offset 0) ≡ kind.Array nibble → (x : Content) → contentAt file offset nibble (bytesIn refs) ≡ x → Known (arrayIn x)
@@ -170,20 +174,18 @@ module _ (file : List ℕ) (refs : Width) (offset : ℕ) where
     array-known m (Refused r) h = by-refusal r
     array-known m (Fits e) h =
         let f = fitting file offset nibble e (bytesIn refs) h in
-        record { extent = e; stands = container-by-kind below (kind.Array nibble) m ∙ rw (f .head); counts = refl; few = omega arith; inside = omega arith }
+        record { extent = e; stands = container-by-kind below (kind.Array nibble) m ∙ rw (f .head); counts = refl; ends = f .ends }
 
-    dictionary-known : kindOf (getD file offset 0) ≡ kind.Dictionary nibble → (x : Content) → pairsAt file offset nibble (bytesIn refs) ≡ x → Known (dictionaryIn x)
+    dictionary-known : kindOf (getD file offset 0) ≡ kind.Dictionary nibble → (x : Content) → contentAt file offset nibble (2 * bytesIn refs) ≡ x → Known (dictionaryIn x)
     unfolding dictionaryIn containerOf dictionaryOf
     dictionary-known m (Refused r) h = by-refusal r
     dictionary-known m (Fits e) h =
-        let p = pairing file offset nibble e (bytesIn refs) h in
-        let f = p .fits in
+        let f = fitting file offset nibble e (2 * bytesIn refs) h in
         record {
           extent = e;
           stands = container-by-kind below (kind.Dictionary nibble) m ∙ rw (f .head);
           counts = refl;
-          few = omega arith;
-          inside = rw mul-assoc (p .inside);
+          ends = twice (e .start) (e .count) (f .ends);
         }
 
   kind-known : offset < trailerAt file → (k : Kind) → kindOf (getD file offset 0) ≡ k → Known (byKind file refs offset k)
@@ -203,7 +205,7 @@ module _ (file : List ℕ) (refs : Width) (offset : ℕ) where
   kind-known below (kind.Utf16 nibble) m = utf16-known below nibble m (contentAt file offset nibble 2) refl
   kind-known below (kind.Uid width) m = fixed-known below (kind.Uid width) m width uidIn (λ w. refl) (λ s. tt)
   kind-known below (kind.Array nibble) m = array-known below nibble m (contentAt file offset nibble (bytesIn refs)) refl
-  kind-known below (kind.Dictionary nibble) m = dictionary-known below nibble m (pairsAt file offset nibble (bytesIn refs)) refl
+  kind-known below (kind.Dictionary nibble) m = dictionary-known below nibble m (contentAt file offset nibble (2 * bytesIn refs)) refl
   kind-known below (kind.Unknown marker) m = by-refusal _
 
   pub known : Known (objectAt file refs offset)

@@ -3,6 +3,8 @@ pub mod Container
 pub mod ContainerLaws
 pub mod Content
 pub mod ContentLaws
+pub mod End
+pub mod EndLaws
 pub mod Found
 pub mod FoundLaws
 pub mod Kind

@@ -14,7 +14,7 @@ use Rattle.event.specs.Real.{realOf, shortRealOf}
 use Rattle.event.specs.declared.Event.{Event}
 use Rattle.event.specs.declared.Event.the-variants.{Boolean, Date, Integer, Uid}
 use Rattle.event.specs.declared.Integer.the-variants.{Signed, Unsigned}
-use Rattle.object.specs.Content.{trailerAt, contentAt, pairsAt}
+use Rattle.object.specs.Content.{trailerAt, endsBefore, contentAt}
 use Rattle.object.specs.Kind.{kindOf}
 use Rattle.object.specs.Refusal.{numberOf, valuesOf}
 use Rattle.object.specs.declared.content.Content.{Content}
@@ -22,7 +22,7 @@ use Rattle.object.specs.declared.content.Content.the-variants.{Fits, Ref
 use Rattle.object.specs.declared.kind.Kind.{Kind}
 use Rattle.object.specs.declared.kind.Kind.the-variants as kind
 use Rattle.object.specs.declared.refusal.Refusal.{Refusal}
-use Rattle.object.specs.declared.refusal.Refusal.the-variants.{NullObjectUnimplemented, FillObjectUnimplemented, UnknownObjectType, IntegerOutOfRange, InvalidUtf8String, InvalidUtf16String}
+use Rattle.object.specs.declared.refusal.Refusal.the-variants.{ObjectOffsetTooLarge, NullObjectUnimplemented, FillObjectUnimplemented, UnknownObjectType, IntegerOutOfRange, InvalidUtf8String, InvalidUtf16String}
 
 -- what is found: nothing, since the offset is at or above T; a refusal with its number and values; a scalar; data or text, with where
 -- its bytes begin and how many they are; a container with its number of elements or pairs
@@ -39,9 +39,9 @@ pub data Found : Type 0 where
 unfoldable pub refusedBy : Refusal → Found
 refusedBy r = refused (numberOf r) (valuesOf r)
 
--- a scalar of fixed size is read from the bytes behind its marker; they aren't measured (R10)
+-- a scalar of fixed size is read from the bytes behind its marker, which must end at or before T (R13)
 unfoldable pub fixedAt : List ℕ → ℕ → ℕ → (List ℕ → Found) → Found
-fixedAt file offset width read = read (part file (offset + 1) width)
+fixedAt file offset width read = cond (endsBefore file (offset + 1 + width)) (read (part file (offset + 1) width)) (refusedBy ObjectOffsetTooLarge)
 
 -- how each kind of fixed size is read (R9, R11)
 abbrev pub unsignedIn : List ℕ → Found
@@ -66,7 +66,7 @@ dateIn s = scalar (Date (be s))
 abbrev pub uidIn : List ℕ → Found
 uidIn s = scalar (Uid (be s))
 
--- what content is, where it has room
+-- what content is, where it ends at or before T
 unfoldable pub dataIn : Content → Found
 dataIn (Refused r) = refusedBy r
 dataIn (Fits e) = bytes (e .start) (e .count)
@@ -107,7 +107,7 @@ byKind file refs offset (kind.Utf8 nibble) = utf8In file (contentAt file offset 
 byKind file refs offset (kind.Utf16 nibble) = utf16In file (contentAt file offset nibble 2)
 byKind file refs offset (kind.Uid width) = fixedAt file offset width uidIn
 byKind file refs offset (kind.Array nibble) = arrayIn (contentAt file offset nibble (bytesIn refs))
-byKind file refs offset (kind.Dictionary nibble) = dictionaryIn (pairsAt file offset nibble (bytesIn refs))
+byKind file refs offset (kind.Dictionary nibble) = dictionaryIn (contentAt file offset nibble (2 * bytesIn refs))
 byKind file refs offset (kind.Unknown marker) = refusedBy (UnknownObjectType marker)
 
 -- an offset at or above T is 6, which the caller gives with the earlier place (R8); else the marker there decides

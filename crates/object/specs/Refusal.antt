@@ -2,14 +2,13 @@
 use mathlib.Core.List.{List, [], _∷_}
 use Prim.Native.Nat.{ℕ}
 use Rattle.object.specs.declared.refusal.Refusal.{Refusal}
-use Rattle.object.specs.declared.refusal.Refusal.the-variants.{EndOfInput, ObjectOffsetTooLarge, NullObjectUnimplemented, FillObjectUnimplemented, UnknownObjectType, IntegerOutOfRange, InvalidUtf8String, InvalidUtf16String, InvalidObjectLength}
+use Rattle.object.specs.declared.refusal.Refusal.the-variants.{ObjectOffsetTooLarge, NullObjectUnimplemented, FillObjectUnimplemented, UnknownObjectType, IntegerOutOfRange, InvalidUtf8String, InvalidUtf16String, InvalidObjectLength}
 
 -- every number with which an object is refused, and no other
 unfoldable pub objectRefusals : List ℕ
-objectRefusals = 2 ∷ 6 ∷ 8 ∷ 9 ∷ 10 ∷ 11 ∷ 12 ∷ 13 ∷ 31 ∷ []
+objectRefusals = 6 ∷ 8 ∷ 9 ∷ 10 ∷ 11 ∷ 12 ∷ 13 ∷ 31 ∷ []
 
 unfoldable pub numberOf : Refusal → ℕ
-numberOf EndOfInput = 2
 numberOf ObjectOffsetTooLarge = 6
 numberOf NullObjectUnimplemented = 8
 numberOf FillObjectUnimplemented = 9
@@ -21,7 +20,6 @@ numberOf InvalidObjectLength = 31
 
 -- 10 comes with the marker (R9)
 unfoldable pub valuesOf : Refusal → List ℕ
-valuesOf EndOfInput = []
 valuesOf ObjectOffsetTooLarge = []
 valuesOf NullObjectUnimplemented = []
 valuesOf FillObjectUnimplemented = []

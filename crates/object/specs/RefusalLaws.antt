@@ -7,12 +7,11 @@ use lib.Dec.{eqb}
 use lib.ListN.{getD}
 use Rattle.number.specs.Among.{among}
 use Rattle.object.specs.Refusal.{objectRefusals, numberOf, valuesOf}
-use Rattle.object.specs.declared.refusal.Refusal.the-variants.{EndOfInput, ObjectOffsetTooLarge, NullObjectUnimplemented, FillObjectUnimplemented, UnknownObjectType, IntegerOutOfRange, InvalidUtf8String, InvalidUtf16String, InvalidObjectLength}
+use Rattle.object.specs.declared.refusal.Refusal.the-variants.{ObjectOffsetTooLarge, NullObjectUnimplemented, FillObjectUnimplemented, UnknownObjectType, IntegerOutOfRange, InvalidUtf8String, InvalidUtf16String, InvalidObjectLength}
 use Rattle.object.specs.declared.refusal.Refusal.{Refusal}
 
 pub refusal-listed : (r : Refusal) → among objectRefusals (numberOf r) ≡ true
 unfolding among objectRefusals numberOf
-refusal-listed EndOfInput = refl
 refusal-listed ObjectOffsetTooLarge = refl
 refusal-listed NullObjectUnimplemented = refl
 refusal-listed FillObjectUnimplemented = refl
@@ -25,19 +24,17 @@ refusal-listed InvalidObjectLength = refl
 -- the refusal of a number and values
 pub refusalFrom : ℕ → List ℕ → Refusal
 refusalFrom n vs =
-    cond (eqb n 2) EndOfInput
-    (cond (eqb n 6) ObjectOffsetTooLarge
+    cond (eqb n 6) ObjectOffsetTooLarge
     (cond (eqb n 8) NullObjectUnimplemented
     (cond (eqb n 9) FillObjectUnimplemented
     (cond (eqb n 10) (UnknownObjectType (getD vs 0 0))
     (cond (eqb n 11) IntegerOutOfRange
     (cond (eqb n 12) InvalidUtf8String
     (cond (eqb n 13) InvalidUtf16String
-    InvalidObjectLength)))))))
+    InvalidObjectLength))))))
 
 pub refusal-again : (r : Refusal) → refusalFrom (numberOf r) (valuesOf r) ≡ r
 unfolding numberOf valuesOf refusalFrom
-refusal-again EndOfInput = refl
 refusal-again ObjectOffsetTooLarge = refl
 refusal-again NullObjectUnimplemented = refl
 refusal-again FillObjectUnimplemented = refl

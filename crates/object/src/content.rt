@@ -1,4 +1,4 @@
-// The length of an object that has one, and whether there is room for it.
+// The length of an object that has one, and whether it ends before the trailer.
 use crate::refusal::Refusal;
 use number::be::Number;
 ghost use mathlib.Core.Path.{_≡_};
@@ -6,7 +6,7 @@ ghost use Prim.Native.Nat.{_+_, _*_, _≤_, _<_};
 ghost use lib.ListN.{length};
 ghost use Rattle.number.specs.Be.{be};
 ghost use Rattle.number.specs.Part.{part};
-ghost use Rattle.object.specs.Content.{lengthWidth, extentAt, hasLength, headAt, roomFor, contentAt, pairsAt};
+ghost use Rattle.object.specs.Content.{lengthWidth, extentAt, hasLength, headAt, endsBefore, contentAt};
 
 // Where the content of an object stands, and how many elements it has: bytes, units, references or pairs.
 pub struct Extent {
@@ -87,16 +87,20 @@ pub(crate) fn head_at(file: &[u8], offset: usize, nibble: u8) -> Content
     Content::Refused(Refusal::InvalidObjectLength)
 }
 
-// Whether content of so many elements, of so many bytes each, has room behind an object's offset.
-fn has_room(file: &[u8], offset: usize, count: u64, each: usize) -> bool
-    requires { ⌜ (offset + 32 ≤ length (now file)) × (0 < each) ⌝ }
-    ensures { λ r. ⌜ r ≡ roomFor (now (file .entry)) offset (count * each) ⌝ }
+// Whether content of so many elements, of so many bytes each, ends at or before the trailer.
+fn has_room(file: &[u8], start: usize, count: u64, each: usize) -> bool
+    requires { ⌜ (32 ≤ length (now file)) × (0 < each) ⌝ }
+    ensures { λ r. ⌜ r ≡ endsBefore (now (file .entry)) (start + count * each) ⌝ }
 {
-    let room = file.len() - 32 - offset;
+    let top = file.len() - 32;
+    if top < start {
+        return false;
+    }
+    let room = top - start;
     count <= (room / each) as u64
 }
 
-// The content of such an object, where there is room for it.
+// The content of such an object, where it ends at or before the trailer.
 pub(crate) fn content_at(file: &[u8], offset: usize, nibble: u8, each: usize) -> Content
     requires { ⌜ (offset + 32 ≤ length (now file)) × (0 < each) ⌝ }
     ensures { λ r. ⌜ r ≡ contentAt (now (file .entry)) offset nibble each ⌝ }
@@ -104,30 +108,10 @@ pub(crate) fn content_at(file: &[u8], offset: usize, nibble: u8, each: usize) ->
     match head_at(file, offset, nibble) {
         Content::Refused(refusal) => Content::Refused(refusal),
         Content::Fits(extent) => {
-            if has_room(file, offset, extent.count, each) {
+            if has_room(file, extent.start, extent.count, each) {
                 return Content::Fits(extent);
             }
             Content::Refused(Refusal::ObjectOffsetTooLarge)
-        }
-    }
-}
-
-// The content of a dictionary. Its keys have room; its values may run past the file's end, and both together past the trailer.
-pub(crate) fn pairs_at(file: &[u8], offset: usize, nibble: u8, each: usize) -> Content
-    requires { ⌜ (offset + 32 ≤ length (now file)) × (0 < each) ⌝ }
-    ensures { λ r. ⌜ r ≡ pairsAt (now (file .entry)) offset nibble each ⌝ }
-{
-    match content_at(file, offset, nibble, each) {
-        Content::Refused(refusal) => Content::Refused(refusal),
-        Content::Fits(extent) => {
-            let both = 2 * (extent.count as usize * each);
-            if file.len() < extent.start + both {
-                return Content::Refused(Refusal::EndOfInput);
-            }
-            if file.len() - 32 < offset + both {
-                return Content::Refused(Refusal::ObjectOffsetTooLarge);
-            }
-            Content::Fits(extent)
         }
     }
 }

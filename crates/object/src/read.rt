@@ -1,9 +1,9 @@
-// The object at an offset: its kind, its length, its room, its content.
+// The object at an offset: its kind, its length, its end, its content.
 use crate::content::Content;
 use crate::content::be_at;
 use crate::content::content_at;
-use crate::content::pairs_at;
 use crate::kind::Kind;
+use crate::kind::fixed_width;
 use crate::kind::kind_of;
 use crate::refusal::Refusal;
 use event::Event;
@@ -16,14 +16,16 @@ use number::width::bytes_in;
 use unicode::utf8::is_utf8;
 use unicode::utf16::is_utf16;
 ghost use mathlib.Core.Path.{_≡_};
-ghost use Prim.Native.Nat.{_+_, _≤_};
+ghost use Prim.Native.Nat.{_+_, _*_, _≤_, _<_};
 ghost use lib.ListN.{length};
 ghost use Rattle.number.specs.Part.{part};
 ghost use Rattle.number.specs.Width.{bytesIn};
 ghost use Rattle.event.specs.declared.Event.the-variants.{Integer as IntegerEvent};
-ghost use Rattle.object.specs.Content.{contentAt, pairsAt};
+ghost use Rattle.object.specs.Content.{contentAt};
 ghost use Rattle.object.specs.Found.{foundOf};
-ghost use Rattle.object.specs.Object.{scalar, objectAt, wideIn, dataIn, utf8In, utf16In, arrayIn, dictionaryIn};
+ghost use Rattle.object.specs.Kind.{fixedWidth};
+ghost use Rattle.object.specs.KindLaws.{widthIn};
+ghost use Rattle.object.specs.Object.{scalar, byKind, objectAt, wideIn, dataIn, utf8In, utf16In, arrayIn, dictionaryIn};
 
 // Bytes of the file.
 pub struct Part {
@@ -53,7 +55,19 @@ pub fn object_at(file: &[u8], refs: Width, offset: usize) -> Object
     if file.len() - 32 <= offset {
         return Object::Outside;
     }
-    match kind_of(file[offset]) {
+    let kind = kind_of(file[offset]);
+    if file.len() - 32 - offset <= fixed_width(kind) {
+        return Object::Refused(Refusal::ObjectOffsetTooLarge);
+    }
+    by_kind(file, refs, offset, kind)
+}
+
+// What the kind says; a scalar of fixed size ends at or before the trailer.
+fn by_kind(file: &[u8], refs: Width, offset: usize, kind: Kind) -> Object
+    requires { ⌜ (offset + 1 + fixedWidth kind + 32 ≤ length (now file)) × (0 < widthIn kind) × (widthIn kind ≤ 8) ⌝ }
+    ensures { λ r. ⌜ foundOf r ≡ byKind (now (file .entry)) refs offset kind ⌝ }
+{
+    match kind {
         Kind::Null => Object::Refused(Refusal::NullObjectUnimplemented),
         Kind::False => Object::Scalar(Event::Boolean(false)),
         Kind::True => Object::Scalar(Event::Boolean(true)),
@@ -150,9 +164,9 @@ fn array_at(file: &[u8], refs: Width, offset: usize, nibble: u8) -> Object
 
 fn dictionary_at(file: &[u8], refs: Width, offset: usize, nibble: u8) -> Object
     requires { ⌜ offset + 32 ≤ length (now file) ⌝ }
-    ensures { λ r. ⌜ foundOf r ≡ dictionaryIn (pairsAt (now (file .entry)) offset nibble (bytesIn refs)) ⌝ }
+    ensures { λ r. ⌜ foundOf r ≡ dictionaryIn (contentAt (now (file .entry)) offset nibble (2 * bytesIn refs)) ⌝ }
 {
-    match pairs_at(file, offset, nibble, bytes_in(refs)) {
+    match content_at(file, offset, nibble, 2 * bytes_in(refs)) {
         Content::Refused(refusal) => Object::Refused(refusal),
         Content::Fits(extent) => Object::Dictionary(extent.count),
     }

@@ -1,6 +1,5 @@
 // Why there is no object, by the names of docs/FORMAT.md, table N.
 pub enum Refusal {
-    EndOfInput,
     ObjectOffsetTooLarge,
     NullObjectUnimplemented,
     FillObjectUnimplemented,

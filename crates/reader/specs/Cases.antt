@@ -13,7 +13,7 @@ use Rattle.event.specs.Format.{magic}
 use Rattle.event.specs.Meaning.{array, close, integer, bytes, text, meaningOf, valueOf, givenOf}
 use Rattle.object.specs.Refusal.{numberOf as objectNumber, valuesOf as objectValues}
 use Rattle.object.specs.Container.{containerAt, containerOf, arrayOf, dictionaryOf}
-use Rattle.object.specs.Content.{contentAt, extentAt, roomFor, lengthWidth, measured, hasLength, isLengthByte, headAt}
+use Rattle.object.specs.Content.{contentAt, extentAt, endsBefore, lengthWidth, measured, hasLength, isLengthByte, headAt}
 use Rattle.object.specs.Kind.{kindOf}
 use Rattle.object.specs.Object.{objectAt, byKind, wideIn, dataIn, utf16In, arrayIn, fixedAt, refusedBy}
 use Rattle.layout.specs.Layout.{numberAt, entryAt, given, dueAt, inArray, dueIn, standsFrom, standsAt, dueOf, lookIn, lookFrom, lookOf, sourceOf}
@@ -60,7 +60,7 @@ cases =
     []
 
 pub cases-right : map (λ (c : Case). answers 3 (c .file) freshReader) cases ≡ map (λ (c : Case). c .answer) cases
-unfolding be onto signedOf widthOf bytesIn isUtf16 isEven paired unitsOf isHigh isLow toUtf8 utf8 utf8Of scalars16 meaningOf valueOf givenOf containerAt containerOf arrayOf dictionaryOf contentAt measured headAt hasLength isLengthByte extentAt roomFor lengthWidth kindOf objectAt byKind fixedAt refusedBy objectNumber objectValues wideIn dataIn utf16In arrayIn numberAt entryAt given dueAt inArray dueIn standsFrom standsAt dueOf lookIn lookFrom lookOf sourceOf startOf enter arrive follow stepOf answers told meaningAt bytesAsked laidOut begin withRefs goOn nextOf dataAsked textAsked eventAsked openOf innermost memberOf advanced passed entered nextIn magic begins eightAt tableOf refSizeOf sizesOf trailerOf
+unfolding be onto signedOf widthOf bytesIn isUtf16 isEven paired unitsOf isHigh isLow toUtf8 utf8 utf8Of scalars16 meaningOf valueOf givenOf containerAt containerOf arrayOf dictionaryOf contentAt measured headAt hasLength isLengthByte extentAt endsBefore lengthWidth kindOf objectAt byKind fixedAt refusedBy objectNumber objectValues wideIn dataIn utf16In arrayIn numberAt entryAt given dueAt inArray dueIn standsFrom standsAt dueOf lookIn lookFrom lookOf sourceOf startOf enter arrive follow stepOf answers told meaningAt bytesAsked laidOut begin withRefs goOn nextOf dataAsked textAsked eventAsked openOf innermost memberOf advanced passed entered nextIn magic begins eightAt tableOf refSizeOf sizesOf trailerOf
 cases-right = refl
 
 -- n arrays, each inside the last, from 8 on, and the table of their offsets
@@ -77,9 +77,9 @@ nested n = magic ++ inside n 1 ++ offsets n 8 ++ trailer (n + 1) (9 + 2 * n)
 
 -- the case "depth": 64 arrays, each in the one before, are read; with 65, 15 comes at the offset of the 65th
 pub deep-64 : drop 63 (answers 65 (nested 63) freshReader) ≡ means (array (some 0)) 134 ∷ means close 134 ∷ []
-unfolding be onto widthOf bytesIn meaningOf valueOf givenOf containerAt containerOf arrayOf dictionaryOf contentAt measured headAt hasLength isLengthByte extentAt roomFor lengthWidth kindOf objectAt byKind fixedAt refusedBy objectNumber objectValues arrayIn numberAt entryAt given dueAt inArray dueIn standsFrom standsAt dueOf lookIn lookFrom lookOf sourceOf startOf enter arrive follow stepOf answers told meaningAt bytesAsked laidOut begin withRefs goOn nextOf eventAsked openOf innermost memberOf advanced passed entered nextIn magic begins eightAt tableOf refSizeOf sizesOf trailerOf closed
+unfolding be onto widthOf bytesIn meaningOf valueOf givenOf containerAt containerOf arrayOf dictionaryOf contentAt measured headAt hasLength isLengthByte extentAt endsBefore lengthWidth kindOf objectAt byKind fixedAt refusedBy objectNumber objectValues arrayIn numberAt entryAt given dueAt inArray dueIn standsFrom standsAt dueOf lookIn lookFrom lookOf sourceOf startOf enter arrive follow stepOf answers told meaningAt bytesAsked laidOut begin withRefs goOn nextOf eventAsked openOf innermost memberOf advanced passed entered nextIn magic begins eightAt tableOf refSizeOf sizesOf trailerOf closed
 deep-64 = refl
 
 pub deep-65 : drop 63 (answers 66 (nested 64) freshReader) ≡ means (array (some 1)) 134 ∷ refused 15 [] 136 ∷ ended ∷ []
-unfolding be onto widthOf bytesIn meaningOf valueOf givenOf containerAt containerOf arrayOf dictionaryOf contentAt measured headAt hasLength isLengthByte extentAt roomFor lengthWidth kindOf objectAt byKind fixedAt refusedBy objectNumber objectValues arrayIn numberAt entryAt given dueAt inArray dueIn standsFrom standsAt dueOf lookIn lookFrom lookOf sourceOf startOf enter arrive follow stepOf answers told meaningAt bytesAsked laidOut begin withRefs goOn nextOf eventAsked openOf innermost memberOf advanced passed entered nextIn magic begins eightAt tableOf refSizeOf sizesOf trailerOf closed
+unfolding be onto widthOf bytesIn meaningOf valueOf givenOf containerAt containerOf arrayOf dictionaryOf contentAt measured headAt hasLength isLengthByte extentAt endsBefore lengthWidth kindOf objectAt byKind fixedAt refusedBy objectNumber objectValues arrayIn numberAt entryAt given dueAt inArray dueIn standsFrom standsAt dueOf lookIn lookFrom lookOf sourceOf startOf enter arrive follow stepOf answers told meaningAt bytesAsked laidOut begin withRefs goOn nextOf eventAsked openOf innermost memberOf advanced passed entered nextIn magic begins eightAt tableOf refSizeOf sizesOf trailerOf closed
 deep-65 = refl

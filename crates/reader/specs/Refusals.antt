@@ -16,7 +16,7 @@ pub step-refusal : (n : ℕ) → among fileRefusals n ≡ true → among stepRef
 unfolding stepRefusals
 step-refusal n h = among-more 14 _ n (among-more 15 _ n h)
 
--- those that end a reader, but for 2 where no trailer has room: an object's, a reference's, 14 and 15
+-- those that end a reader: an object's, a reference's, 14 and 15
 unfoldable pub endRefusals : List ℕ
 endRefusals = 14 ∷ 15 ∷ lookRefusals
 

@@ -10,7 +10,7 @@ use Rattle.event.specs.Format.{magic}
 use Rattle.event.specs.Meaning.{meaningOf, valueOf, givenOf}
 use Rattle.object.specs.Refusal.{numberOf as objectNumber, valuesOf as objectValues}
 use Rattle.object.specs.Container.{containerAt, containerOf, arrayOf, dictionaryOf}
-use Rattle.object.specs.Content.{contentAt, extentAt, roomFor, measured, hasLength, isLengthByte, headAt}
+use Rattle.object.specs.Content.{contentAt, extentAt, endsBefore, measured, hasLength, isLengthByte, headAt}
 use Rattle.object.specs.Kind.{kindOf}
 use Rattle.object.specs.Object.{objectAt, byKind, utf8In, arrayIn, fixedAt, refusedBy}
 use Rattle.layout.specs.Layout.{numberAt, entryAt, given, dueAt, inArray, dueIn, standsFrom, standsAt, dueOf, lookIn, lookFrom, lookOf, sourceOf}
@@ -58,5 +58,5 @@ cases =
     []
 
 pub cases-right : map (λ (c : Case). transcriptOf (c .budget) p10 (7 ∷ []) (c .tape)) cases ≡ map (λ (c : Case). c .run-is) cases
-unfolding be onto widthOf bytesIn within table rowOf wellFormed isUtf8 meaningOf valueOf givenOf containerAt containerOf arrayOf dictionaryOf contentAt measured headAt hasLength isLengthByte extentAt roomFor kindOf objectAt byKind fixedAt refusedBy objectNumber objectValues utf8In arrayIn numberAt entryAt given dueAt inArray dueIn standsFrom standsAt dueOf lookIn lookFrom lookOf sourceOf startOf enter arrive follow stepOf laidOut begin withRefs goOn nextOf textAsked eventAsked askedOf lengthSaid scratchAfter partSaid openOf innermost memberOf advanced passed entered nextIn closed magic begins eightAt tableOf refSizeOf sizesOf trailerOf putOf putTo fits appendOf appendTo bytesFor allowed groups seven hasBytes fromTape putNote textNote noteOf byNoted byNote bySaid runOf transcriptOf
+unfolding be onto widthOf bytesIn within table rowOf wellFormed isUtf8 meaningOf valueOf givenOf containerAt containerOf arrayOf dictionaryOf contentAt measured headAt hasLength isLengthByte extentAt endsBefore kindOf objectAt byKind fixedAt refusedBy objectNumber objectValues utf8In arrayIn numberAt entryAt given dueAt inArray dueIn standsFrom standsAt dueOf lookIn lookFrom lookOf sourceOf startOf enter arrive follow stepOf laidOut begin withRefs goOn nextOf textAsked eventAsked askedOf lengthSaid scratchAfter partSaid openOf innermost memberOf advanced passed entered nextIn closed magic begins eightAt tableOf refSizeOf sizesOf trailerOf putOf putTo fits appendOf appendTo bytesFor allowed groups seven hasBytes fromTape putNote textNote noteOf byNoted byNote bySaid runOf transcriptOf
 cases-right = refl

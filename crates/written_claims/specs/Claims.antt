@@ -24,7 +24,8 @@ use Rattle.written.specs.Graph.{Scalar, Piece, pieceOf, val, box, order, number
 use Rattle.written.specs.NameLaws.{In}
 use Rattle.written.specs.NumberLaws.{order-in, number-at}
 use Rattle.written_claims.specs.Accepted.{Accepted, layoutFor, sound}
-use Rattle.written_claims.specs.End.{endAt, nibbleAt, LengthByte}
+use Rattle.object.specs.End.{endAt}
+use Rattle.written_claims.specs.End.{nibbleAt, LengthByte}
 use Rattle.written_claims.specs.EndLaws.{object-ended}
 use Rattle.written_claims.specs.FileShown.{fine}
 use Rattle.written_claims.specs.FileBack.{event-means}

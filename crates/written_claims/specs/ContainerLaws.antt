@@ -2,7 +2,7 @@
 use mathlib.Core.List.{List, _++_}
 use mathlib.Core.Path.{_≡_, refl, ap, _∙_}
 use Prim.Native.Nat.{ℕ, zero, suc, _+_, _*_, _/_, _%_, _^_, _≤_, _<_}
-use native.Mathlib.Nat.{add-mul}
+use native.Mathlib.Nat.{add-mul, mul-assoc, mul-comm}
 use native.Mathlib.Omega.{arith}
 use borrow.Author.Tests.{lt-ltb, le-leb, eq-eqb, ne-eqb}
 use lib.ListN.{length, getD, length-append, List·getD-append}
@@ -11,7 +11,7 @@ use Rattle.number.specs.Width.{bytesIn}
 use Rattle.number.specs.declared.width.Width.{Width}
 use Rattle.unicode.specs.Bounds.{Below}
 use Rattle.object.specs.Container.{arrayOf, dictionaryOf, containerOf, containerAt}
-use Rattle.object.specs.Content.{trailerAt, roomFor, pairsIn, pairsAt}
+use Rattle.object.specs.Content.{trailerAt}
 use Rattle.object.specs.Kind.{kindOf}
 use Rattle.object.specs.KindLaws.{kind-array, kind-dictionary}
 use Rattle.object.specs.Object.{byKind, objectAt, arrayIn, dictionaryIn}
@@ -93,6 +93,10 @@ module _ (keys values : List ℕ) (j : ℕ) (h : j < length keys) where
       let e : (2 * j + 1) / 2 + (2 * j + 1) % 2 * length keys ≡ length keys + j = rw (q, r) (omega arith) in
       rw e (getD-append-add keys values j 0)
 
+-- the bytes of n pairs of references
+pairs-le : (n w : ℕ) → n * (2 * w) ≤ 2 * (n * w)
+pairs-le n w = rw (← mul-assoc n 2 w, mul-comm n 2, mul-assoc 2 n w) (omega arith)
+
 module _ (file : List ℕ) (l : Layout) (at : ℕ) where
   -- what a dictionary says: its number of pairs, key and value in turn, and its end
   pub record DictionaryReads (keys values : List ℕ) : Type 0 where
@@ -105,14 +109,14 @@ module _ (file : List ℕ) (l : Layout) (at : ℕ) where
 
   pub dictionary-reads : (keys values : List ℕ) → length values ≡ length keys → length keys < 2 ^ 64 → Below (256 ^ bytesIn (l .refs)) (keys ++ values)
       → Whole file at (objectBytes (bytesIn (l .refs)) (pairs keys values)) → DictionaryReads keys values
-  unfolding objectBytes byKind dictionaryIn pairsAt pairsIn roomFor containerAt containerOf dictionaryOf dueIn inDictionary
+  unfolding objectBytes byKind dictionaryIn containerAt containerOf dictionaryOf dueIn inDictionary
   dictionary-reads keys values same small good wh =
       let w = bytesIn (l .refs) in
       let n = length keys in
       let rs = keys ++ values in
       let many : length rs ≡ 2 * n = rw (length-append, same) (omega arith) in
       let twice : length (numbersBytes w rs) ≡ 2 * (n * w) = length-numbers w rs ∙ rw (length-append, same, add-mul) (omega arith) in
-      let d = headed file at 0xD0 n w (numbersBytes w rs) small (omega arith) wh in
+      let d = headed file at 0xD0 n (2 * w) (numbersBytes w rs) small (rw twice (pairs-le n w)) wh in
       let k : kindOf (0xD0 + nibbleOf n) ≡ kind.Dictionary (nibbleOf n) = kind-nibble 0xD0 kind.Dictionary kind-dictionary n in
       let c : containerAt file at ≡ Dictionary (behind at 0xD0 n) = rw (lt-ltb at (trailerAt file) (d .inside), d .marker, k, containerOf, d .head) in
       let start = at + length (headBytes 0xD0 n) in
@@ -120,7 +124,7 @@ module _ (file : List ℕ) (l : Layout) (at : ℕ) where
       let at-place : (f : Frame) → f .length ≡ n → f .position < 2 * n → dueIn file l f at (containerAt file at) ≡ Member (getD rs (placeIn n (f .position)) 0) =
       λ f e h. rw (c, dueIn, inDictionary, e, eq-eqb n n refl, ← many) (due-reference file (l .refs) at start rs good (d .body) (placeIn n (f .position)) (f .position) (omega arith) (omega (arith, place-lt n (f .position) h))) in
       record {
-        is = d .decides (l .refs) ∙ rw (k, d .content, pairsIn, le-leb (start + 2 * (n * w)) (length file) (omega arith), le-leb (at + 2 * (n * w)) (trailerAt file) (omega arith));
+        is = d .decides (l .refs) ∙ rw (k, d .content);
         lies = c;
         body = d .body;
         key = λ f e j h p. at-place f e (omega arith) ∙ rw p (ap Member (key-place keys values j h));

@@ -28,7 +28,8 @@ use Rattle.tape.specs.Code.{allowed, OnTape}
 use Rattle.written.specs.Encoding.{sizeMarker, numberBytes, integerBytes, nibbleOf, headBytes, textBytes, scalarBytes, numbersBytes, Object, lone, list, pairs, objectBytes}
 use Rattle.written.specs.FileLaws.{length-numbers}
 use Rattle.written.specs.Scalar.{IsScalar}
-use Rattle.written_claims.specs.End.{behindAll, endBy, endAt, nibbleIn, nibbleAt, LengthByte}
+use Rattle.object.specs.End.{behindAll, endBy, endAt}
+use Rattle.written_claims.specs.End.{nibbleIn, nibbleAt, LengthByte}
 use Rattle.written_claims.specs.HeadLaws.{kind-nibble, headed}
 use Rattle.written_claims.specs.Shown.{Fine}
 use Rattle.written_claims.specs.Stands.{Stands, Whole, stands-front, stands-back, stands-byte}

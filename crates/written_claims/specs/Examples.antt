@@ -14,7 +14,7 @@ use Rattle.unicode.specs.Unicode.{isUtf8, wellFormed, rowOf, within}
 use Rattle.unicode.specs.Unicode as unicode
 use Rattle.object.specs.Refusal.{numberOf as objectNumber, valuesOf as objectValues}
 use Rattle.object.specs.Container.{containerOf, containerAt, arrayOf, dictionaryOf}
-use Rattle.object.specs.Content.{lengthWidth, extentAt, roomFor, contentAt, measured, hasLength, isLengthByte, headAt, pairsAt, pairsIn}
+use Rattle.object.specs.Content.{lengthWidth, extentAt, endsBefore, contentAt, measured, hasLength, isLengthByte, headAt}
 use Rattle.object.specs.Kind.{kindOf}
 use Rattle.object.specs.Object.{dataIn, utf8In, utf16In, arrayIn, dictionaryIn, byKind, objectAt, fixedAt, refusedBy}
 use Rattle.layout.specs.Layout.{numberAt, entryAt, standsFrom, standsAt, lookIn, lookFrom, lookOf}
@@ -47,7 +47,7 @@ laid = record { offsets = One; refs = One; count = 4; table = 25 }
 
 -- the dictionary names the key and the array; the array names the key and the number
 pub nested-references : map (namedBy (fileFor nested) laid) (0 ∷ 1 ∷ 2 ∷ 3 ∷ []) ≡ (1 ∷ 2 ∷ []) ∷ [] ∷ (1 ∷ 3 ∷ []) ∷ [] ∷ []
-unfolding namedBy namedIn referencesOf entriesOf entriesIn row inTurn numberIn lookOf lookFrom lookIn entryAt numberAt standsAt standsFrom objectAt byKind fixedAt refusedBy objectNumber objectValues kindOf dataIn utf8In utf16In arrayIn dictionaryIn pairsAt pairsIn contentAt measured headAt hasLength isLengthByte roomFor extentAt lengthWidth containerAt containerOf arrayOf dictionaryOf bytesIn be onto signedOf isUtf8 wellFormed rowOf unicode.table within
+unfolding namedBy namedIn referencesOf entriesOf entriesIn row inTurn numberIn lookOf lookFrom lookIn entryAt numberAt standsAt standsFrom objectAt byKind fixedAt refusedBy objectNumber objectValues kindOf dataIn utf8In utf16In arrayIn dictionaryIn contentAt measured headAt hasLength isLengthByte endsBefore extentAt lengthWidth containerAt containerOf arrayOf dictionaryOf bytesIn be onto signedOf isUtf8 wellFormed rowOf unicode.table within
 nested-references = ap (λ (f : List ℕ). map (namedBy f laid) (0 ∷ 1 ∷ 2 ∷ 3 ∷ [])) (examples .2)
 
 -- reading gives the events with their lengths

@@ -14,10 +14,10 @@ use Rattle.number.specs.Size.{sizeOf}
 use Rattle.number.specs.SizeLaws.{Sized, one, two, four, eight, sized, fits-itself}
 use Rattle.number.specs.declared.width.Width.{Width}
 use Rattle.number.specs.Part.{part}
-use Rattle.object.specs.Content.{trailerAt, lengthWidth, extentAt, isLengthByte, hasLength, headAt, roomFor, measured, contentAt}
+use Rattle.object.specs.Content.{trailerAt, lengthWidth, extentAt, isLengthByte, hasLength, headAt, endsBefore, measured, contentAt}
 use Rattle.object.specs.Kind.{kindOf}
 use Rattle.object.specs.Object.{Found, fixedAt, byKind, objectAt}
-use Rattle.object.specs.ObjectLaws.{object-inside}
+use Rattle.object.specs.ObjectLaws.{object-inside, fixed-inside}
 use Rattle.object.specs.declared.content.Content.the-variants.{Fits}
 use Rattle.object.specs.declared.content.Extent.{Extent}
 use Rattle.object.specs.declared.kind.Kind.{Kind}
@@ -39,8 +39,7 @@ marker-decides file refs at marker s wh = object-inside file refs at (omega (ari
 -- a scalar of fixed size that stands whole before T is read from its bytes
 pub fixed-reads : (file : List ℕ) (at w : ℕ) (read : List ℕ → Found) (marker : ℕ) (s : List ℕ) → length s ≡ w → Whole file at (marker ∷ s)
     → fixedAt file at w read ≡ read (part file (at + 1) w)
-unfolding fixedAt
-fixed-reads file at w read marker s h wh = refl
+fixed-reads file at w read marker s h wh = fixed-inside file at w read (omega (arith, wh .ends, h))
 
 -- a nibble has four bits
 pub nibble-lt : (n : ℕ) → nibbleOf n < 16
@@ -113,7 +112,7 @@ pub record Headed (file : List ℕ) (at base n each : ℕ) (s : List ℕ) : Type
 
 pub headed : (file : List ℕ) (at base n each : ℕ) (s : List ℕ) → n < 2 ^ 64 → n * each ≤ length s
     → Whole file at (headBytes base n ++ s) → Headed file at base n each s
-unfolding headBytes measured contentAt roomFor
+unfolding headBytes measured contentAt endsBefore
 headed file at base n each s small long wh =
     let front : Stands file at (headBytes base n) = stands-front file at (headBytes base n) s (wh .stands) in
     let e = extent-is file at base n small front in
@@ -126,6 +125,6 @@ headed file at base n each s small long wh =
       decides = λ refs. marker-decides file refs at (base + nibbleOf n) _ wh;
       extent = e;
       head = d;
-      content = rw (d, measured, le-leb (at + n * each) (trailerAt file) (omega arith));
+      content = rw (d, measured, le-leb (at + length (headBytes base n) + n * each) (trailerAt file) (omega arith));
       body = stands-back file at (headBytes base n) s (wh .stands);
     }

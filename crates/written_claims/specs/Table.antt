@@ -17,7 +17,7 @@ use Rattle.event.specs.Meaning.{array, dictionary, close, boolean, integer, tex
 use Rattle.unicode.specs.Unicode.{isUtf8, wellFormed, rowOf, within}
 use Rattle.unicode.specs.Unicode as unicode
 use Rattle.object.specs.Container.{containerAt, containerOf, arrayOf, dictionaryOf}
-use Rattle.object.specs.Content.{contentAt, extentAt, roomFor, lengthWidth, hasLength, measured, headAt, pairsAt, pairsIn}
+use Rattle.object.specs.Content.{contentAt, extentAt, endsBefore, lengthWidth, hasLength, measured, headAt}
 use Rattle.object.specs.Kind.{kindOf}
 use Rattle.object.specs.Object.{objectAt, byKind, fixedAt, utf8In, arrayIn, dictionaryIn}
 use Rattle.reader.specs.Cases as reading
@@ -55,7 +55,7 @@ readings =
     []
 
 readings-right : map (λ (c : writing.Case). answers 8 (c .file) freshReader) writing.cases ≡ readings
-unfolding be onto signedOf widthOf bytesIn isUtf8 wellFormed rowOf unicode.table within meaningOf valueOf givenOf containerAt containerOf arrayOf dictionaryOf contentAt measured headAt hasLength pairsAt pairsIn extentAt roomFor lengthWidth kindOf objectAt byKind fixedAt utf8In arrayIn dictionaryIn numberAt entryAt placeIn given dueAt inArray inDictionary dueIn standsFrom standsAt dueOf lookIn lookFrom lookOf sourceOf startOf enter arrive follow stepOf answers told meaningAt bytesAsked laidOut begin withRefs goOn nextOf dataAsked textAsked eventAsked openOf innermost memberOf advanced passed entered nextIn closed magic begins eightAt tableOf refSizeOf sizesOf trailerOf
+unfolding be onto signedOf widthOf bytesIn isUtf8 wellFormed rowOf unicode.table within meaningOf valueOf givenOf containerAt containerOf arrayOf dictionaryOf contentAt measured headAt hasLength endsBefore extentAt lengthWidth kindOf objectAt byKind fixedAt utf8In arrayIn dictionaryIn numberAt entryAt placeIn given dueAt inArray inDictionary dueIn standsFrom standsAt dueOf lookIn lookFrom lookOf sourceOf startOf enter arrive follow stepOf answers told meaningAt bytesAsked laidOut begin withRefs goOn nextOf dataAsked textAsked eventAsked openOf innermost memberOf advanced passed entered nextIn closed magic begins eightAt tableOf refSizeOf sizesOf trailerOf
 readings-right = refl
 
 -- the tape of n arrays, each inside the last
