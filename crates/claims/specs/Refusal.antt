@@ -1,9 +1,8 @@
 -- What a refusal of a step or of a text request leaves: table N of docs/FORMAT.md, for all of 1 to 17, and 31.
 use mathlib.Core.Bool.{Bool, true, false, cond}
 use mathlib.Core.List.{List, []}
-use mathlib.Core.Logic.{_⊎_, inl, inr}
-use mathlib.Core.Path.{_≡_, refl, ap}
-use Prim.Native.Nat.{ℕ, _≤_, _<_}
+use mathlib.Core.Path.{_≡_, refl}
+use Prim.Native.Nat.{ℕ}
 use native.Mathlib.Omega.{arith}
 use lib.Dec.{leb, ltb}
 use lib.ListN.{length}
@@ -22,7 +21,7 @@ use Rattle.object.specs.declared.container.Container.the-variants.{Array, Dicti
 use Rattle.layout.specs.Bytes.{Asked, inFile, inUtf16, noBytes, denied, dataAsked, textAsked, givenIf, scalarAsked, startAsked, endAsked, eventAsked}
 use Rattle.reader.specs.Machine.{refused}
 use Rattle.reader.specs.Next.{nextOf}
-use Rattle.reader.specs.Request.{TextSaid, long, refusing, askedOf, lengthSaid, scratchAfter}
+use Rattle.reader.specs.Request.{long, refusing, askedOf, lengthSaid, scratchAfter}
 use Rattle.reader.specs.State.{maxLength, endedReader}
 use Rattle.reader.specs.declared.answer.Record.{Record}
 use Rattle.reader.specs.declared.state.Reader.{Reader}

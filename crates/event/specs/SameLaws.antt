@@ -12,7 +12,6 @@ use lib.ListN.{getD}
 use lib.Signed.{ltZ}
 use Rattle.number.specs.Signed.{magnitudeOf}
 use Rattle.event.specs.Meaning.{Meaning, array, dictionary, close, boolean, bytes, date, integer, real, text, uid, valueOf, givenOf, meaningOf}
-use Rattle.event.specs.Real.{floatBits}
 use Rattle.event.specs.Same.{key, keyOf, startKey, same}
 use Rattle.event.specs.declared.Event.{Event}
 use Rattle.event.specs.declared.Event.the-variants.{StartArray, StartDictionary, EndCollection, Boolean, Data, Date, Integer as IntegerEvent, Real, Nan, String, Uid}

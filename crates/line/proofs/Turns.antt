@@ -1,12 +1,12 @@
 -- What a turn of each writing loop does.
 use mathlib.Core.Logic.{_≢_}
-use mathlib.Core.Path.{_≡_, refl, sym, _∙_}
+use mathlib.Core.Path.{_≡_, sym, _∙_}
 use mathlib.Core.List.{List, [], _∷_, _++_}
-use Prim.Native.Nat.{ℕ, zero, suc, _+_, _-_, _*_, _/_, _%_, _≤_, _<_}
-use native.Mathlib.Nat.{add-zero, add-suc, suc-add}
+use Prim.Native.Nat.{ℕ, zero, suc, _+_, _-_, _/_, _%_, _<_}
+use native.Mathlib.Nat.{add-zero, add-suc}
 use native.Mathlib.Numerals.{add-one, sub-one}
 use native.Mathlib.Omega.{arith}
-use lib.ListN.{length, set, getD, drop, length-append, drop-of-length-le}
+use lib.ListN.{length, set, getD, drop}
 use lib.Seq.{sets, set-comm, drop-cons}
 use Rattle.line.specs.Line.{hex, hexDigit, digitsOf}
 use Rattle.line.specs.LineLaws.{length-digits}

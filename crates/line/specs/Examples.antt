@@ -1,9 +1,8 @@
 -- Computed lines: the listing of P10 of docs/FORMAT.md, whole; and both ends of what a line can hold.
 use mathlib.Core.Bool.{true, false}
-use mathlib.Core.List.{List, [], _∷_, _++_, map}
+use mathlib.Core.List.{[], _∷_, _++_, map}
 use mathlib.Core.Option.{none, some}
 use mathlib.Core.Path.{_≡_, refl}
-use Prim.Native.Nat.{ℕ}
 use lib.IntN.{pos, negsuc}
 use lib.Ieee.{ofBits}
 use Rattle.number.specs.Be.{bytesOf}

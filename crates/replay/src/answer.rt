@@ -11,8 +11,6 @@ use reader::state::Reader;
 use say::say_answer;
 use say::say_event;
 use say::say_fixed;
-ghost use Prim.Native.Nat.{_≤_};
-ghost use lib.ListN.{length};
 
 // More reads than there will be: the loop over standard input needs an end.
 const READS: u64 = 0x4000_0000_0000_0000;

@@ -1,8 +1,7 @@
 -- `numeral_length` counts the space, the sign and the digits, or the day and time.
 use mathlib.Core.Path.{refl}
 use native.Mathlib.Omega.{arith}
-use lib.ListN.{length}
-use Rattle.line.specs.Line.{plus, minus, decimal}
+use Rattle.line.specs.Line.{plus, minus}
 use Rattle.line.specs.LineLaws.{length-decimal, length-stamp}
 use Rattle.line.specs.Piece.{numeralOf}
 use borrow.Author.Needs.{needs}

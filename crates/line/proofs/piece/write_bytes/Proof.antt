@@ -1,7 +1,5 @@
 -- `write_bytes` stores all bytes: those stored, with those left behind them, are the whole.
-use Rattle.line.proofs.Written.{written-length}
-use Rattle.line.specs.Piece.{Written}
-use mathlib.Core.Path.{_≡_, refl, sym, _∙_}
+use mathlib.Core.Path.{_≡_, refl, _∙_}
 use Prim.Native.Nat.{_+_, _-_, _≤_}
 use native.Mathlib.Nat.{add-zero}
 use native.Mathlib.Omega.{arith}

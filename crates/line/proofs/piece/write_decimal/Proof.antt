@@ -1,8 +1,6 @@
 -- `write_decimal` writes as many digits as the number takes.
-use mathlib.Core.Path.{_≡_}
 use native.Mathlib.Omega.{arith}
 use borrow.Author.Needs.{needs}
-use lib.ListN.{length}
 use Rattle.line.specs.Line.{decimal}
 use Rattle.line.specs.LineLaws.{length-decimal}
 use Rattle.line.proofs.Written.{written-length}

@@ -1,7 +1,6 @@
 -- `write_digits` stores all digits: those not yet stored, with what is stored behind them, are the whole.
-use Rattle.line.specs.Piece.{Written}
-use mathlib.Core.Path.{_≡_, refl, sym, _∙_}
-use Prim.Native.Nat.{_+_, _-_, _≤_}
+use mathlib.Core.Path.{_≡_, refl, _∙_}
+use Prim.Native.Nat.{_≤_}
 use native.Mathlib.Omega.{arith}
 use lib.ListN.{length, length-set}
 use lib.Seq.{sets}

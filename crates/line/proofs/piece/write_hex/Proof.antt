@@ -1,6 +1,5 @@
 -- `write_hex` stores two digits for each byte: those stored, with those left behind them, are the whole.
-use Rattle.line.specs.Piece.{Written}
-use mathlib.Core.Path.{_≡_, refl, sym, _∙_}
+use mathlib.Core.Path.{_≡_, refl, _∙_}
 use Prim.Native.Nat.{_+_, _-_, _*_, _≤_}
 use native.Mathlib.Omega.{arith}
 use lib.ListN.{length, drop, length-set, drop-of-length-le}

@@ -3,7 +3,7 @@ use mathlib.Core.Path.{_∙_}
 use Prim.Native.Nat.{_+_, _≤_}
 use native.Mathlib.Omega.{arith}
 use lib.ListN.{length, length-set}
-use Rattle.line.specs.Line.{tail, hex}
+use Rattle.line.specs.Line.{hex}
 use Rattle.line.specs.LineLaws.{tail-none, tail-some}
 use Rattle.line.proofs.Written.{written-nil, written-cons, written-length}
 use Rattle.line.proofs.piece.write_tail.Statement.{statement}

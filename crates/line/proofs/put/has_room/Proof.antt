@@ -1,9 +1,7 @@
 -- `has_room` says whether the sum is within the room: each test leaves the rest of it.
 
 use mathlib.Core.Bool.{true≢false, false≢true}
-use mathlib.Core.Path.{sym}
 use native.Mathlib.Omega.{arith}
-use Rattle.line.specs.Piece.{spaceOf}
 use borrow.Author.Needs.{needs}
 use Rattle.line.proofs.put.has_room.Statement.{statement}
 use Rattle.line.proofs.put.has_room.Tie as tie

@@ -2,9 +2,8 @@
 
 use Rattle.line.specs.Line.{refusalLine, plus, word-at, tail}
 use mathlib.Core.List.{[]}
-use mathlib.Core.Path.{_≡_, refl, sym, _∙_}
+use mathlib.Core.Path.{refl, _∙_}
 use native.Mathlib.Omega.{arith}
-use lib.ListN.{length}
 use Rattle.line.specs.LineLaws.{length-row, length-refusal}
 use Rattle.line.specs.Piece.{numeralOf, spaceOf}
 use Rattle.line.specs.PutLaws.{put-whole, put-none}

@@ -1,8 +1,6 @@
 -- `put_row` writes a line where it was measured to fit, and nothing where not.
 
-use mathlib.Core.Path.{_≡_, sym, _∙_}
 use native.Mathlib.Omega.{arith}
-use lib.ListN.{length}
 use Rattle.line.specs.LineLaws.{length-row, length-tail}
 use Rattle.line.specs.Piece.{numeralOf}
 use Rattle.line.specs.PutLaws.{put-whole, put-none}

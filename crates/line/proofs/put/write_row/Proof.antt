@@ -1,8 +1,7 @@
 -- `write_row` writes the four pieces one behind the other.
-use mathlib.Core.Path.{_≡_, refl, _∙_}
+use mathlib.Core.Path.{refl, _∙_}
 use native.Mathlib.Omega.{arith}
-use lib.ListN.{length}
-use Rattle.line.specs.Line.{row, tail}
+use Rattle.line.specs.Line.{row}
 use Rattle.line.specs.LineLaws.{length-row}
 use Rattle.line.specs.Piece.{numeralOf}
 use Rattle.line.proofs.Written.{written-append, written-length}

@@ -1,9 +1,7 @@
 -- `shown_frames` goes down from the last frame.
-use mathlib.Core.Path.{_≡_}
-use Prim.Native.Nat.{_-_, _≤_}
+use Prim.Native.Nat.{_≤_}
 use native.Mathlib.Omega.{arith}
 use borrow.Author.Needs.{needs}
-use lib.ListN.{length}
 use Rattle.event.specs.Format.{maxOpen}
 use Rattle.replay.proofs.forged.shown_frames.Statement.{statement}
 use Rattle.replay.proofs.forged.shown_frames.Tie as tie
