@@ -44,6 +44,8 @@ use Rattle.event.proofs.same.is_same.Kinds as is-same-kinds
 use Rattle.event.proofs.same.is_same.Reads as is-same-reads
 use Rattle.number.proofs.be.read_be.Kinds as read-be-kinds
 use Rattle.number.proofs.be.read_be.Reads as read-be-reads
+use Rattle.number.proofs.be.read_eight.Kinds as read-eight-kinds
+use Rattle.number.proofs.be.read_eight.Reads as read-eight-reads
 use Rattle.number.proofs.be.read_halves.Kinds as read-halves-kinds
 use Rattle.number.proofs.be.read_halves.Reads as read-halves-reads
 use Rattle.number.proofs.be.write_be.Kinds as write-be-kinds
@@ -123,6 +125,12 @@ use Rattle.tape.proofs.append.append.Kinds as append-kinds
 use Rattle.tape.proofs.append.append.Reads as append-reads
 use Rattle.tape.proofs.append.append_unchecked.Kinds as append-unchecked-kinds
 use Rattle.tape.proofs.append.append_unchecked.Reads as append-unchecked-reads
+use Rattle.tape.proofs.append.put_bytes_unchecked.Kinds as put-bytes-unchecked-kinds
+use Rattle.tape.proofs.append.put_bytes_unchecked.Reads as put-bytes-unchecked-reads
+use Rattle.tape.proofs.append.put_kind.Kinds as put-kind-kinds
+use Rattle.tape.proofs.append.put_kind.Reads as put-kind-reads
+use Rattle.tape.proofs.append.put_number.Kinds as put-number-kinds
+use Rattle.tape.proofs.append.put_number.Reads as put-number-reads
 
 real-of-one : One 0 real-of-kinds.ps real-of-kinds.r real-of-reads.Post (Unit {0}) (λ κs e. tt)
 real-of-one κs a x y e f p q = (p ∙ sym q, refl)
@@ -138,6 +146,9 @@ is-same-one κs a x y e f p q = (p ∙ sym q, refl)
 
 read-be-one : One 1 read-be-kinds.ps read-be-kinds.r read-be-reads.Post (Unit {0}) (λ κs e. tt)
 read-be-one κs a x y e f p q = (p ∙ sym q, refl)
+
+read-eight-one : One 1 read-eight-kinds.ps read-eight-kinds.r read-eight-reads.Post (Unit {0}) (λ κs e. tt)
+read-eight-one κs a x y e f p q = (p ∙ sym q, refl)
 
 read-halves-one : One 1 read-halves-kinds.ps read-halves-kinds.r read-halves-reads.Post (Unit {0}) (λ κs e. tt)
 read-halves-one κs a x y e f p q = (p ∙ sym q, refl)
@@ -256,6 +267,15 @@ append-one κs a x y e f p q = (said-one x y (p .0 ∙ sym (q .0)), p .1 .0 ∙ 
 
 append-unchecked-one : One 2 append-unchecked-kinds.ps append-unchecked-kinds.r append-unchecked-reads.Post (List ℕ) (λ κs e. now (e .0))
 append-unchecked-one κs a x y e f p q = (said-one x y (p .0 ∙ sym (q .0)), p .1 ∙ sym (q .1))
+
+put-bytes-unchecked-one : One 2 put-bytes-unchecked-kinds.ps put-bytes-unchecked-kinds.r put-bytes-unchecked-reads.Post (List ℕ) (λ κs e. now (e .0))
+put-bytes-unchecked-one κs a x y e f p q = (said-one x y (p .0 ∙ sym (q .0)), p .1 ∙ sym (q .1))
+
+put-kind-one : One 1 put-kind-kinds.ps put-kind-kinds.r put-kind-reads.Post (List ℕ) (λ κs e. now (e .0))
+put-kind-one κs a x y e f p q = (said-one x y (p .0 ∙ sym (q .0)), p .1 ∙ sym (q .1))
+
+put-number-one : One 1 put-number-kinds.ps put-number-kinds.r put-number-reads.Post (List ℕ) (λ κs e. now (e .0))
+put-number-one κs a x y e f p q = (said-one x y (p .0 ∙ sym (q .0)), p .1 ∙ sym (q .1))
 
 transcribe-one : One 3 transcribe-kinds.ps transcribe-kinds.r transcribe-reads.Post (record { tape : List ℕ; scratch : List ℕ }) (λ κs e. record { tape = now (e .1 .1 .0); scratch = now (e .1 .0) })
 transcribe-one κs a x y e f p q =

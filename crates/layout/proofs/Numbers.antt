@@ -1,17 +1,21 @@
 -- Numbers of a width that stand in a file.
 use Prim.Native.Nat.{ℕ, zero, suc, _+_, _-_, _*_, _/_, _^_, _≤_, _<_}
 use mathlib.Core.List.{List}
-use mathlib.Core.Path.{_≡_, sym, _∙_}
+use mathlib.Core.Bool.{Bool, true, false}
+use mathlib.Core.Path.{_≡_, refl, sym, _∙_}
 use native.Mathlib.Nat.{mul-le-mul-left, le-div-iff-mul-le, div-lt-iff-lt-mul, div-le-self}
 use native.Mathlib.Omega.{arith}
-use borrow.Author.Tests.{le-leb}
+use borrow.Author.Tests.{le-leb, lt-ltb, le-ltb, ltb-true, ltb-false}
+use lib.Dec.{ltb}
 use lib.ListN.{length, take, drop}
+use lib.Seq.{take-take}
 use Rattle.number.specs.Be.{be}
+use Rattle.number.specs.BeLaws.{Bytes}
 use Rattle.number.specs.Read.{numberOf}
 use Rattle.number.specs.declared.be.Number.{Number}
 use Rattle.number.specs.declared.be.Number.the-variants.{Of, NoNumber}
 use Rattle.number.specs.Part.{part}
-use Rattle.number.specs.PartLaws.{number-part}
+use Rattle.number.specs.PartLaws.{number-part, be-shifted}
 use Rattle.number.specs.Width.{bytesIn}
 use Rattle.number.specs.declared.width.Width.{Width}
 use Rattle.layout.specs.Layout.{numberAt}
@@ -30,6 +34,24 @@ module _ (s : List ℕ) (at n : ℕ) (some : 0 < n) (few : n ≤ 8) (inside : at
       let z : NoNumber ≡ Of (be (part s at n)) = sym e ∙ read ∙ number-part s at n inside some few in
       let q : _≡_ {A = ℕ} 0 1 = cc in
       omega arith
+
+-- whether eight bytes pass the end, without the sum
+pub eight-left : (end at : ℕ) → 8 ≤ end → ltb (end - 8) at ≡ ltb end (at + 8)
+eight-left end at h = go (ltb end (at + 8)) refl
+  where
+    go : (b : Bool) → ltb end (at + 8) ≡ b → ltb (end - 8) at ≡ b
+    go true e =
+        let l : end < at + 8 = ltb-true end (at + 8) e in
+        lt-ltb (end - 8) at (omega arith)
+    go false e =
+        let l : at + 8 ≤ end = ltb-false end (at + 8) e in
+        le-ltb (end - 8) at (omega arith)
+
+-- eight bytes that are read, the rest behind a number of fewer dropped
+pub shifted : (s : List ℕ) (at w : ℕ) → Bytes s → w ≤ 8 → at + 8 ≤ length s → be (take 8 (take (at + 8 - at) (drop at s))) / 2 ^ (64 - 8 * w) ≡ be (part s at w)
+shifted s at w b few inside =
+    let q : at + 8 - at ≡ 8 = omega arith in
+    rw (q, take-take 8 8 (drop at s) (omega arith)) (be-shifted s at w b few inside)
 
 -- an object's number, and a place among references, times a width fit
 pub scaled : (n w : ℕ) → n < 2 ^ 32 → w ≤ 8 → n * w < 2 ^ 36

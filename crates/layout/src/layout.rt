@@ -1,13 +1,20 @@
 // What a file says under the sizes, the count and the table of its trailer.
 use crate::frame::Frame;
 use number::be::Number;
+use number::be::read_eight;
 use number::width::Width;
 use number::width::bytes_in;
 use object::container::Container;
 use object::container::container_at;
 use object::content::Extent;
+ghost use mathlib.Core.Bool.{cond};
 ghost use mathlib.Core.Path.{_≡_};
-ghost use Prim.Native.Nat.{_<_, _^_};
+ghost use Prim.Native.Nat.{_+_, _≤_, _<_, _^_};
+ghost use lib.Dec.{leb, ltb};
+ghost use lib.ListN.{length};
+ghost use Rattle.number.specs.Be.{be};
+ghost use Rattle.number.specs.Part.{part};
+ghost use Rattle.layout.specs.declared.layout.Entry.the-variants.{Of, Outside};
 ghost use Rattle.layout.specs.Layout.{numberAt, entryAt, dueAt, inArray, inDictionary, dueIn, dueOf, standsAt};
 
 pub struct Layout {
@@ -43,11 +50,36 @@ impl Standing {
     };
 }
 
-// The number of a width that stands at an offset.
+// The number of a width that stands at an offset. Eight bytes are read at once, whatever the width, and the rest is dropped: some 10
+// instructions a number less than byte by byte.
 pub fn number_at(file: &[u8], width: Width, at: usize) -> Entry
     ensures { λ r. ⌜ r ≡ numberAt (now (file .entry)) width at ⌝ }
 {
     let bytes = bytes_in(width);
+    if lacks_eight(file.len(), at) {
+        return number_near_end(file, bytes, at);
+    }
+    let eight = read_eight(&file[at..at + 8]);
+    let rest = 64 - 8 * bytes;
+    let number = eight >> rest;
+    Entry::Of(number)
+}
+
+// Whether eight bytes from a place on pass the end.
+fn lacks_eight(end: usize, at: usize) -> bool
+    ensures { λ r. ⌜ r ≡ ltb end (at + 8) ⌝ }
+{
+    if end < 8 {
+        return true;
+    }
+    end - 8 < at
+}
+
+// The number of so many bytes, where fewer than eight may be left.
+fn number_near_end(file: &[u8], bytes: usize, at: usize) -> Entry
+    requires { ⌜ (0 < bytes) × (bytes ≤ 8) ⌝ }
+    ensures { λ r. ⌜ r ≡ cond (leb (at + bytes) (length (now (file .entry)))) (Of (be (part (now (file .entry)) at bytes))) Outside ⌝ }
+{
     if file.len() < bytes {
         return Entry::Outside;
     }

@@ -1,7 +1,7 @@
 // Big-endian numbers: the bytes of a lent part, whatever its width.
 ghost use mathlib.Core.Path.{_≡_};
 ghost use Prim.Native.Nat.{_+_, _*_, _^_, _≤_};
-ghost use lib.ListN.{length};
+ghost use lib.ListN.{length, take};
 ghost use Rattle.number.specs.Be.{be, bytesOf};
 ghost use Rattle.number.specs.Read.{numberOf, halvesOf};
 
@@ -33,6 +33,17 @@ pub fn read_be(part: &[u8]) -> Number
         return Number::NoNumber;
     }
     Number::Of(horner(part))
+}
+
+// The number of the first eight bytes of a part, or of all where there are fewer. Eight bytes are one load and a change of their order; a
+// number of fewer is had from them by a shift.
+pub fn read_eight(part: &[u8]) -> u64
+    ensures { λ r. ⌜ r ≡ be (take 8 (now (part .entry))) ⌝ }
+{
+    if part.len() < 8 {
+        return horner(part);
+    }
+    horner(&part[..8])
 }
 
 // The number of a part of 16 bytes, as two halves. A part of any other length is none.

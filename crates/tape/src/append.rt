@@ -13,7 +13,8 @@ use unicode::utf8::is_utf8;
 ghost use mathlib.Core.Bool.{not};
 ghost use mathlib.Core.List.{[], _∷_, _++_};
 ghost use mathlib.Core.Path.{_≡_};
-ghost use Prim.Native.Nat.{_<_};
+ghost use Prim.Native.Nat.{_+_, _<_};
+ghost use lib.Dec.{ltb};
 ghost use lib.ListN.{length};
 ghost use Rattle.event.specs.Meaning.{boolean, integer, meaningOf, valueOf};
 ghost use Rattle.number.specs.Be.{bytesOf};
@@ -54,12 +55,12 @@ pub fn append_unchecked(tape: &mut [u8], held: usize, event: Event, bytes: &[u8]
         Event::StartDictionary(length) => put_start(tape, held, 0x0c, length),
         Event::EndCollection => put_kind(tape, held, 0x0e),
         Event::Boolean(value) => put_boolean(tape, held, value),
-        Event::Data => put_bytes(tape, held, 0x08, bytes),
+        Event::Data => put_bytes_unchecked(tape, held, 0x08, bytes),
         Event::Date(bits) => put_eight(tape, held, 0x06, bits),
         Event::Integer(value) => put_integer(tape, held, value),
         Event::Real(value) => put_eight(tape, held, 0x05, float_bits(value)),
         Event::Nan(bits) => put_eight(tape, held, 0x05, bits),
-        Event::String => put_bytes(tape, held, 0x09, bytes),
+        Event::String => put_bytes_unchecked(tape, held, 0x09, bytes),
         Event::Uid(n) => put_number(tape, held, 0x07, n),
     }
 }
@@ -124,7 +125,7 @@ fn sign_kind(z: i64) -> u8
 }
 
 // A kind alone.
-fn put_kind(tape: &mut [u8], held: usize, kind: u8) -> Appended
+pub fn put_kind(tape: &mut [u8], held: usize, kind: u8) -> Appended
     ensures { λ r. ⌜ said r ≡ putOf (now (tape .entry)) held (kind ∷ []) ⌝ }
     ensures { λ _. ⌜ now (tape .exit) ≡ putTo (now (tape .entry)) held (kind ∷ []) ⌝ }
 {
@@ -136,15 +137,25 @@ fn put_kind(tape: &mut [u8], held: usize, kind: u8) -> Appended
 }
 
 // A kind and a number.
-fn put_number(tape: &mut [u8], held: usize, kind: u8, n: u64) -> Appended
+pub fn put_number(tape: &mut [u8], held: usize, kind: u8, n: u64) -> Appended
     ensures { λ r. ⌜ said r ≡ putOf (now (tape .entry)) held (kind ∷ seven n) ⌝ }
     ensures { λ _. ⌜ now (tape .exit) ≡ putTo (now (tape .entry)) held (kind ∷ seven n) ⌝ }
 {
-    if lacks_room(tape.len(), held, 1 + groups_in(n)) {
+    if lacks_number(tape.len(), held, n) {
         return Appended::NoRoom(held as u64);
     }
     tape[held] = kind;
     Appended::Held(write_number(tape, held + 1, n))
+}
+
+// Whether a kind and a number pass the end. Where the longest number fits, its groups are not counted: some 20 instructions a number less.
+fn lacks_number(end: usize, at: usize, n: u64) -> bool
+    ensures { λ r. ⌜ r ≡ ltb end (at + (1 + length (seven n))) ⌝ }
+{
+    if lacks_room(end, at, 11) {
+        return lacks_room(end, at, 1 + groups_in(n));
+    }
+    false
 }
 
 // A kind and 8 bytes, the high one first.
@@ -162,8 +173,8 @@ fn put_eight(tape: &mut [u8], held: usize, kind: u8, bits: u64) -> Appended
     Appended::Held(end)
 }
 
-// A kind, a length and so many bytes.
-fn put_bytes(tape: &mut [u8], held: usize, kind: u8, bytes: &[u8]) -> Appended
+// A kind, a length and so many bytes. Like `append_unchecked` it doesn't look at text.
+pub fn put_bytes_unchecked(tape: &mut [u8], held: usize, kind: u8, bytes: &[u8]) -> Appended
     ensures { λ r. ⌜ said r ≡ putOf (now (tape .entry)) held (kind ∷ (seven (length (now (bytes .entry))) ++ now (bytes .entry))) ⌝ }
     ensures { λ _. ⌜ now (tape .exit) ≡ putTo (now (tape .entry)) held (kind ∷ (seven (length (now (bytes .entry))) ++ now (bytes .entry))) ⌝ }
 {

@@ -1,3 +1,4 @@
 pub mod Calls
+pub mod Listed
 pub mod Noting
 pub mod Walking

@@ -1,6 +1,6 @@
 -- What noting an event does, by where its bytes stand.
 use mathlib.Core.Bool.{Bool, true, false}
-use mathlib.Core.List.{List, [], _++_}
+use mathlib.Core.List.{List, [], _∷_, _++_}
 use mathlib.Core.Path.{_≡_, refl, sym, ap, _∙_}
 use Prim.Native.Nat.{ℕ, _+_, _-_, _≤_}
 use native.Mathlib.Omega.{arith}
@@ -13,13 +13,15 @@ use Rattle.unicode.specs.Changed.{changedOf, changedTo}
 use Rattle.unicode.specs.Unicode.{isUtf16, toUtf8}
 use Rattle.unicode.specs.declared.changed.Changed.{Changed}
 use Rattle.unicode.specs.declared.changed.Changed.the-variants.{Written, NotText, NoRoom}
-use Rattle.event.specs.Meaning.{Meaning, meaningOf}
+use Rattle.event.specs.Meaning.{Meaning, meaningOf, givenOf}
 use Rattle.event.specs.declared.Event.{Event}
+use Rattle.event.specs.declared.Event.the-variants.{EndCollection}
 use Rattle.number.specs.Part.{part}
 use Rattle.object.specs.declared.read.Part.{Part}
 use Rattle.event.specs.Bare.{Bare}
 use Rattle.layout.specs.LookLaws.{bare-plain}
 use Rattle.layout.specs.Bytes.{Asked, inFile, inUtf16, noBytes, denied, eventAsked, hasBytes}
+use Rattle.layout.specs.Looked.{Shape, array, dictionary, startOf}
 use Rattle.layout.specs.Said.{askedSaid, numberOf, valuesOf}
 use Rattle.layout.specs.declared.refusal.Refusal.{Refusal}
 use Rattle.layout.specs.declared.lookup.Asked.{Asked as AskedRead}
@@ -31,8 +33,9 @@ use Rattle.reader.specs.State.{maxLength}
 use Rattle.reader.proofs.Inside.{AskedIn, asked-in}
 use Rattle.reader.proofs.Utf16.{is-written, no-room, is-text, filled}
 use Rattle.tape.specs.AppendLaws.{put-event}
-use Rattle.tape.specs.Append.{putOf, putTo, appendOf, appendTo}
+use Rattle.tape.specs.Append.{Said, putOf, putTo, appendOf, appendTo}
 use Rattle.tape.specs.Code.{bytesFor, allowed}
+use Rattle.tape.specs.Seven.{seven}
 use Rattle.transcribe.proofs.Calls.{plain-noted as noted-plain}
 use Rattle.transcribe.specs.HandedLaws.{Given, given-allowed}
 use Rattle.transcribe.specs.Note.{Noted, noting, fromTape, putNote, noteOf}
@@ -40,10 +43,30 @@ use Rattle.transcribe.specs.Note as note
 use Rattle.transcribe.specs.TranscriptLaws.{utf16Text, note-file, note-long, note-changed}
 use Rattle.transcribe.specs.Walk.{Notable}
 
+-- the kind under which an event's bytes stand on the tape
+abbrev pub Kind : Event → ℕ → Type 0
+Kind e n = (s : List ℕ) → n ∷ (seven (length s) ++ s) ≡ bytesFor (meaningOf e s)
+
+-- the kind of a container that has its length
+abbrev pub startKind : Shape → ℕ
+startKind array = 0x0B
+startKind dictionary = 0x0D
+
 -- a note, from what the tape answers and what becomes of it
 put-is : (s tape t : List ℕ) (held : ℕ) (m : Meaning) (n : Noted) → allowed m ≡ true → n ≡ fromTape (putOf tape held (bytesFor m)) → t ≡ putTo tape held (bytesFor m) → noting n t s ≡ putNote s tape held m
 unfolding putNote
 put-is s tape t held m n a u v = let p = put-event tape held m a (refl, refl) in rw (u ∙ ap fromTape (p .0), v ∙ p .1)
+
+-- a container's end and its start, as the tape puts them
+module _ (tape : List ℕ) (held : ℕ) {x : Said} {t : List ℕ} where
+  pub end-put : (x ≡ putOf tape held (0x0E ∷ [])) × (t ≡ putTo tape held (0x0E ∷ [])) → (x ≡ appendOf tape held (meaningOf EndCollection [])) × (t ≡ appendTo tape held (meaningOf EndCollection []))
+  unfolding meaningOf bytesFor allowed
+  end-put p = put-event tape held (meaningOf EndCollection []) refl p
+
+  pub start-put : (shape : Shape) (n : ℕ) → (x ≡ putOf tape held (startKind shape ∷ seven n)) × (t ≡ putTo tape held (startKind shape ∷ seven n)) → (x ≡ appendOf tape held (meaningOf (startOf shape n) [])) × (t ≡ appendTo tape held (meaningOf (startOf shape n) []))
+  unfolding meaningOf givenOf bytesFor allowed startOf
+  start-put array n p = put-event tape held (meaningOf (startOf array n) []) refl p
+  start-put dictionary n p = put-event tape held (meaningOf (startOf dictionary n) []) refl p
 
 -- a part of a file as it is lent
 abbrev lent : List ℕ → Part → List ℕ
@@ -120,9 +143,12 @@ module _ {file : List ℕ} {e : Event} {bytes : AskedRead} {offset : ℕ} (w : N
     unfolding meaningAt bytesAsked
     file-means = rw (lent-is file p, stands in-file)
 
-    pub file-noted : (scratch tape : List ℕ) (held : ℕ) (y : Noted) (t : List ℕ) → y ≡ fromTape (putOf tape held (bytesFor (meaningOf e (lent file p)))) → t ≡ putTo tape held (bytesFor (meaningOf e (lent file p))) → noting y t scratch ≡ noteOf file scratch tape held (recordOf e offset)
-    file-noted scratch tape held y t u v =
-        put-is scratch tape t held _ y (rw (lent-is file p) (given in-file .1)) u v ∙
+    pub file-has : hasBytes e ≡ true
+    file-has = given in-file .0
+
+    pub file-noted : (scratch tape : List ℕ) (held : ℕ) (y : Noted) (t : List ℕ) {n : ℕ} → Kind e n → y ≡ fromTape (putOf tape held (n ∷ (seven (length (lent file p)) ++ lent file p))) → t ≡ putTo tape held (n ∷ (seven (length (lent file p)) ++ lent file p)) → noting y t scratch ≡ noteOf file scratch tape held (recordOf e offset)
+    file-noted scratch tape held y t kinds u v =
+        put-is scratch tape t held _ y (rw (lent-is file p) (given in-file .1)) (u ∙ ap (λ (b : List ℕ). fromTape (putOf tape held b)) (kinds (lent file p))) (v ∙ ap (putTo tape held) (kinds (lent file p))) ∙
         rw file-means (sym (note-file file scratch tape held e offset short (given in-file .0) (p .start) (p .length) (stands in-file)))
 
   -- bytes of the file that are UTF-16
@@ -137,7 +163,7 @@ module _ {file : List ℕ} {e : Event} {bytes : AskedRead} {offset : ℕ} (w : N
     is-utf16 : isUtf16 (part file (p .start) (p .length)) ≡ true
     is-utf16 = given in-utf16 .1
 
-    utf16-has : hasBytes e ≡ true
+    pub utf16-has : hasBytes e ≡ true
     unfolding hasBytes
     utf16-has = rw (given in-utf16 .0) refl
 
@@ -176,8 +202,8 @@ module _ {file : List ℕ} {e : Event} {bytes : AskedRead} {offset : ℕ} (w : N
           unfolding meaningAt bytesAsked
           utf16-means = rw (filled-is, ← fitting .1, take-append-seam, stands in-utf16)
 
-          pub utf16-noted : Bytes file → (tape : List ℕ) (held : ℕ) (y : Noted) (t : List ℕ) → y ≡ fromTape (putOf tape held (bytesFor (meaningOf e (take k s)))) → t ≡ putTo tape held (bytesFor (meaningOf e (take k s))) → noting y t s ≡ noteOf file scratch tape held (recordOf e offset)
+          pub utf16-noted : Bytes file → (tape : List ℕ) (held : ℕ) (y : Noted) (t : List ℕ) {n : ℕ} → Kind e n → y ≡ fromTape (putOf tape held (n ∷ (seven (length (take k s)) ++ take k s))) → t ≡ putTo tape held (n ∷ (seven (length (take k s)) ++ take k s)) → noting y t s ≡ noteOf file scratch tape held (recordOf e offset)
           unfolding meaningAt
-          utf16-noted b tape held y t u v =
-              put-is s tape t held _ y (rw utf16-means (given-allowed file b e (eventAsked file e offset) (w .given))) u v ∙
+          utf16-noted b tape held y t kinds u v =
+              put-is s tape t held _ y (rw utf16-means (given-allowed file b e (eventAsked file e offset) (w .given))) (u ∙ ap (λ (b : List ℕ). fromTape (putOf tape held b)) (kinds (take k s))) (v ∙ ap (putTo tape held) (kinds (take k s))) ∙
               rw (utf16-means, filled-is) (sym (note-changed file scratch tape held e offset short utf16-has (p .start) (p .length) (stands in-utf16) (fitting .0)))

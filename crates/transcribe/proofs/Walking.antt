@@ -8,6 +8,7 @@ use borrow.Author.Tests.{eq-eqb, ne-eqb, le-leb, lt-leb}
 use lib.Dec.{lit<}
 use lib.ListN.{length, replicate, set, getD, take, length-set}
 use lib.Seq.{set-set, getD-set-same}
+use Rattle.number.specs.Among.{among}
 use Rattle.number.specs.WidthLaws.{allowed}
 use Rattle.event.specs.Meaning.{meaningOf}
 use Rattle.event.specs.declared.Event.{Event}
@@ -42,6 +43,7 @@ use Rattle.transcribe.specs.Said.{failSaid}
 use Rattle.transcribe.specs.HandedLaws.{scalar-given, start-bare}
 use Rattle.transcribe.specs.Walk.{Notable, dueNow, within}
 use Rattle.transcribe.specs.declared.note.Failure.{Failure}
+use Rattle.transcribe.proofs.Listed.{Listed, listed-member, onward-listed, close-listed, enter-listed}
 use Rattle.transcribe.proofs.Calls.{plain-noted, call-refused, call-kept, call-failed, run-ended}
 
 -- where the innermost of these containers stands
@@ -92,6 +94,7 @@ pub record Turn : Type 0 where
   pub place : ℕ
   pub depth : ℕ
   pub frames : List Frame
+  pub numbers : List ℕ
   pub top : ℕ
   pub standing : Standing
   pub whole : Run
@@ -100,8 +103,10 @@ pub record Turn : Type 0 where
   pub some : 0 < left
   pub fits : depth ≤ maxOpen
   pub long : length frames ≡ maxOpen
+  pub many : length numbers ≡ maxOpen
   pub at : top ≡ depth - 1
   pub stands : Stands file layout standing depth frames
+  pub listed : Listed depth frames numbers
   pub is : leftOf file layout root left scratch tape held place depth frames ≡ whole
 
 module _ (x : Turn) where
@@ -265,6 +270,19 @@ module _ (x : Turn) where
               (ap (within (x .file) (x .layout) offset (x .depth + 1)) (rw (x .at) (over (x .file) (x .layout) (x .root) (x .place) (x .depth) (x .frames) g)))
               (λ e. omega arith)
               (omega arith)
+
+  -- the numbers of the open containers: the search among them, and what a turn makes of them
+  pub sought : (object : ℕ) → memberOf (take (x .depth) (x .frames)) object ≡ among (take (x .depth) (x .numbers)) object
+  sought object = listed-member (x .depth) (x .frames) (x .numbers) object (x .listed)
+
+  pub close-lists : Listed (x .top) (set (x .frames) (x .top) noFrame) (x .numbers)
+  close-lists = close-listed (x .depth) (x .top) (x .frames) (x .numbers) (omega (arith, x .at)) (x .listed)
+
+  pub scalar-lists : Listed (x .depth) (set (x .frames) (x .top) (nextIn (getD (x .frames) (x .top) noFrame))) (x .numbers)
+  scalar-lists = onward-listed (x .depth) (x .top) (x .frames) (x .numbers) (x .listed)
+
+  pub enter-lists : x .depth < maxOpen → (object k : ℕ) → Listed (x .depth + 1) (set (set (x .frames) (x .top) (nextIn (getD (x .frames) (x .top) noFrame))) (x .depth) (newFrame object k)) (set (x .numbers) (x .depth) object)
+  enter-lists h object k = enter-listed (x .depth) (x .top) object k (x .frames) (x .numbers) (omega (arith, x .long)) (omega (arith, x .many)) (x .listed)
 
   -- there are as many frames after one was moved and another written
   pub still-long : (f g : Frame) → length (set (set (x .frames) (x .top) f) (x .depth) g) ≡ maxOpen

@@ -1,17 +1,30 @@
 // One event put on the tape.
 use event::Event;
 use layout::lookup::Asked;
+use layout::lookup::Shape;
 use layout::refusal::Refusal;
 use tape::append::Appended;
 use tape::append::append_unchecked;
+use tape::append::put_bytes_unchecked;
+use tape::append::put_kind;
+use tape::append::put_number;
 use unicode::changed::Changed;
 use unicode::utf16::utf16_to_utf8;
-ghost use mathlib.Core.List.{[]};
+ghost use mathlib.Core.Bool.{true};
+ghost use mathlib.Core.List.{List, [], _∷_, _++_};
 ghost use mathlib.Core.Path.{_≡_};
+ghost use Prim.Native.Nat.{ℕ};
+ghost use lib.ListN.{length};
 ghost use Rattle.event.specs.Meaning.{meaningOf};
 ghost use Rattle.event.specs.Bare.{Bare};
+ghost use Rattle.event.specs.declared.Event.the-variants.{EndCollection};
+ghost use Rattle.layout.specs.Bytes.{hasBytes};
+ghost use Rattle.layout.specs.Looked.{startOf};
+ghost use Rattle.layout.specs.Said.{shapeSaid};
 ghost use Rattle.reader.specs.Machine.{recordOf};
 ghost use Rattle.tape.specs.Append.{said, appendOf, appendTo};
+ghost use Rattle.tape.specs.Code.{bytesFor};
+ghost use Rattle.tape.specs.Seven.{seven};
 ghost use Rattle.transcribe.specs.Note.{fromTape, noting, noteOf};
 ghost use Rattle.transcribe.specs.Said.{noteSaid};
 ghost use Rattle.transcribe.specs.Walk.{Notable};
@@ -47,13 +60,17 @@ pub(crate) fn note(
         Asked::InFile(part) => {
             let start = part.start;
             let end = start + part.length;
-            noted(append_unchecked(tape, held, event, &file[start..end]))
+            let kind = bytes_kind(event);
+            noted(put_bytes_unchecked(tape, held, kind, &file[start..end]))
         }
         Asked::InUtf16(part) => {
             let start = part.start;
             let end = start + part.length;
             match utf16_to_utf8(&file[start..end], scratch) {
-                Changed::Written(n) => noted(append_unchecked(tape, held, event, &scratch[..n])),
+                Changed::Written(n) => {
+                    let kind = bytes_kind(event);
+                    noted(put_bytes_unchecked(tape, held, kind, &scratch[..n]))
+                }
                 Changed::NoRoom => NoteAnswer::Fails(Failure::Refused(
                     Refusal::NoRoomForText,
                     offset,
@@ -67,8 +84,39 @@ pub(crate) fn note(
     }
 }
 
+// The tape's kind of data, or of text.
+fn bytes_kind(event: Event) -> u8
+    requires { ⌜ hasBytes event ≡ true ⌝ }
+    ensures { λ r. ⌜ ((s : List ℕ) → r ∷ (seven (length s) ++ s) ≡ bytesFor (meaningOf event s)) ⌝ }
+{
+    match event {
+        Event::Data => 0x08,
+        _ => 0x09,
+    }
+}
+
+// A container's start, with its length. It and the end go to the tape by themselves, without a choice among all events: some 35
+// instructions less for each.
+pub(crate) fn note_start(tape: &mut [u8], held: usize, shape: Shape, length: u64) -> NoteAnswer
+    ensures { λ r. ⌜ noteSaid r ≡ fromTape (appendOf (now (tape .entry)) held (meaningOf (startOf (shapeSaid shape) length) [])) ⌝ }
+    ensures { λ _. ⌜ now (tape .exit) ≡ appendTo (now (tape .entry)) held (meaningOf (startOf (shapeSaid shape) length) []) ⌝ }
+{
+    match shape {
+        Shape::Array => noted(put_number(tape, held, 0x0b, length)),
+        Shape::Dictionary => noted(put_number(tape, held, 0x0d, length)),
+    }
+}
+
+// A container's end.
+pub(crate) fn note_end(tape: &mut [u8], held: usize) -> NoteAnswer
+    ensures { λ r. ⌜ noteSaid r ≡ fromTape (appendOf (now (tape .entry)) held (meaningOf EndCollection [])) ⌝ }
+    ensures { λ _. ⌜ now (tape .exit) ≡ appendTo (now (tape .entry)) held (meaningOf EndCollection []) ⌝ }
+{
+    noted(put_kind(tape, held, 0x0e))
+}
+
 // An event without bytes.
-pub(crate) fn note_plain(tape: &mut [u8], held: usize, event: Event) -> NoteAnswer
+fn note_plain(tape: &mut [u8], held: usize, event: Event) -> NoteAnswer
     requires { ⌜ Bare event ⌝ }
     ensures { λ r. ⌜ noteSaid r ≡ fromTape (appendOf (now (tape .entry)) held (meaningOf event [])) ⌝ }
     ensures { λ _. ⌜ now (tape .exit) ≡ appendTo (now (tape .entry)) held (meaningOf event []) ⌝ }

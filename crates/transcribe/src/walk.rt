@@ -4,8 +4,8 @@ use crate::Transcript;
 use crate::note::Failure;
 use crate::note::NoteAnswer;
 use crate::note::note;
-use crate::note::note_plain;
-use event::Event;
+use crate::note::note_end;
+use crate::note::note_start;
 use layout::frame::Frame;
 use layout::layout::Due;
 use layout::layout::Layout;
@@ -14,14 +14,13 @@ use layout::layout::due_in;
 use layout::layout::stands_at;
 use layout::lookup::Look;
 use layout::lookup::look_up;
-use layout::lookup::start_of;
 use layout::refusal::Refusal;
 use object::container::container_at;
 use reader::state::Reader;
-use reader::state::is_open;
 ghost use mathlib.Core.Path.{_≡_};
 ghost use Prim.Native.Nat.{_≤_, _-_};
 ghost use lib.ListN.{length};
+ghost use Rattle.number.specs.Among.{among};
 ghost use Rattle.layout.specs.Layout.{lookOf};
 ghost use Rattle.layout.specs.Said.{numberOf, valuesOf};
 ghost use Rattle.reader.specs.Machine.{arrive};
@@ -45,6 +44,8 @@ pub(crate) fn walk(
     ensures { λ r. ⌜ run (endSaid (r .ending)) (r .held) (now (tape .exit)) (now (scratch .exit)) ≡ onward budget (now (file .entry)) (now (scratch .entry)) (now (tape .entry)) 0 (arrive (laidOut (now (file .entry)) layout) root (lookOf (now (file .entry)) layout root)) ⌝ }
 {
     let mut frames = [Frame::NONE; Reader::MAX_OPEN];
+    // their numbers once more, to be lent and searched: a slice of frames can't be lent, and a copy of them would cost 100 instructions
+    let mut numbers = [0u32; Reader::MAX_OPEN];
     let mut depth: usize = 0;
     let mut place = layout.table as u64;
     let mut held: usize = 0;
@@ -58,7 +59,7 @@ pub(crate) fn walk(
             Due::Wrong => {
                 return refused(Refusal::WrongFile, 0, held);
             }
-            Due::Close(_) => match note_plain(tape, held, Event::EndCollection) {
+            Due::Close(_) => match note_end(tape, held) {
                 NoteAnswer::Fails(failure) => {
                     return failed(failure, held);
                 }
@@ -101,19 +102,20 @@ pub(crate) fn walk(
                 },
                 Look::Container(shape, length, offset) => {
                     let number = object as u32;
-                    if is_open(frames, depth, number) {
+                    if is_among(&numbers[..depth], number) {
                         return refused(Refusal::RecursiveObject, offset, held);
                     }
                     if Reader::MAX_OPEN <= depth {
                         return refused(Refusal::TooDeep, offset, held);
                     }
-                    match note_plain(tape, held, start_of(shape, length)) {
+                    match note_start(tape, held, shape, length) {
                         NoteAnswer::Fails(failure) => {
                             return failed(failure, held);
                         }
                         NoteAnswer::Held(n) => {
                             // With nothing open the first frame is written over at once.
                             frames[top].position = frames[top].position + 1;
+                            numbers[depth] = number;
                             frames[depth] = Frame {
                                 object: number,
                                 position: 0,
@@ -137,6 +139,24 @@ pub(crate) fn walk(
         ending: Ending::Stopped,
         held,
     }
+}
+
+// Whether a number is among others. None ends the loop early, so that the compiler compares many at once: at 64 levels that takes some 40
+// instructions less than to stop at the first one.
+fn is_among(numbers: &[u32], number: u32) -> bool
+    ensures { λ r. ⌜ r ≡ among (now (numbers .entry)) number ⌝ }
+{
+    let mut found = false;
+    let mut i: usize = 0;
+    while i < numbers.len() {
+        if numbers[i] == number {
+            found = true;
+            i += 1;
+            continue;
+        }
+        i += 1;
+    }
+    found
 }
 
 // Where the innermost open container stands; with none open, where the first one will.

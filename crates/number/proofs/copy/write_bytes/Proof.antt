@@ -1,89 +1,79 @@
--- `write_bytes` copies: what is still to be copied, from `i` on, is what was to be copied.
-use mathlib.Core.Path.{_≡_, refl, sym, _∙_}
-use Prim.Native.Nat.{_+_, _-_, _≤_, _<_}
-use native.Mathlib.Nat.{add-zero, add-suc}
-use native.Mathlib.Numerals.{add-one}
+-- `write_bytes` copies as many bytes as have room, which is what storing all of them does.
+use mathlib.Core.Path.{_≡_, sym, _∙_}
+use Prim.Native.Nat.{_-_, _≤_}
 use native.Mathlib.Omega.{arith}
 use borrow.Author.Needs.{needs}
-use lib.ListN.{length, drop, length-set}
-use lib.Seq.{sets, drop-cons}
-use Rattle.number.proofs.Copies.{smaller, smaller-left, smaller-right, sets-out, copied}
+use lib.ListN.{length, take}
+use lib.Seq.{length-take-le}
+use Rattle.number.proofs.Copies.{smaller-left, smaller-right, sets-out, cut}
 use Rattle.number.proofs.copy.write_bytes.Statement.{statement}
 use Rattle.number.proofs.copy.write_bytes.Tie as tie
 
-abbrev Inv-loop : tie.InvT-loop
-Inv-loop out₀ at bytes end i₀ out i = (i ≤ end) × (length out ≡ length out₀) × (sets out (at + i) (drop i bytes) ≡ sets out₀ at bytes)
-
-abbrev μ-loop : tie.MeasureT-loop
-μ-loop out₀ at bytes end i₀ out i = end - i
-
-returns : tie.Need-returns Inv-loop μ-loop
+returns : tie.Need-returns
 returns c =
     let a = c .before .before .before .args in
     sym (sets-out (a .bytes .now) (a .out .now) (a .at) (c .if1 .taken))
 
-sub-least : tie.Need-sub-least Inv-loop μ-loop
+sub-least : tie.Need-sub-least
 sub-least c = search needs
 
-least-requires : tie.Need-least-requires Inv-loop μ-loop
+least-requires : tie.Need-least-requires
 least-requires c κs = search needs
 
-loop-holds : tie.Need-loop-holds Inv-loop μ-loop
-loop-holds c = (omega arith, refl, rw add-zero)
+-- what has room is within the bytes, and within the memory; so many bytes are lent
+module _ (c : tie.After-least) where
+  within : (c .least .result ≤ length (c .before .before .before .before .args .bytes .now)) × (c .least .result ≤ length (c .before .before .before .before .args .out .now) - c .before .before .before .before .args .at)
+  within = rw (c .least .ensures) (smaller-left _ _, smaller-right _ _)
 
--- the end is within the bytes, and within the memory
-ends : (c : tie.After-least Inv-loop μ-loop) →
-    let a = c .before .before .before .before .args in
-    (c .least .result ≤ length (a .bytes .now)) × (c .least .result ≤ length (a .out .now) - a .at)
-ends c = rw (c .least .ensures) (smaller-left _ _, smaller-right _ _)
+  lent : length (take (c .least .result) (c .before .before .before .before .args .bytes .now)) ≡ c .least .result
+  lent = length-take-le _ _ (within .0)
 
-shared-slice-read-out : tie.Need-shared-slice-read-out Inv-loop μ-loop
-shared-slice-read-out c = omega (arith, ends (c .before .before .before))
+slice-aggregate-write-few : tie.Need-slice-aggregate-write-few
+slice-aggregate-write-few c = sym (lent (c .before .before .before))
 
-add-out : tie.Need-add-out Inv-loop μ-loop
-add-out c = omega (arith, ends (c .before .before .before))
+write-few-requires : tie.Need-write-few-requires
+write-few-requires c κs =
+    let d = c .before .before .before in
+    rw (lent d) (omega (arith, within d .1, d .before .if1 .left))
 
-slice-write-out : tie.Need-slice-write-out Inv-loop μ-loop
-slice-write-out c = omega (arith, ends (c .before .before .before))
+same-length : tie.Need-same-length
+same-length c = search needs
 
-add-i : tie.Need-add-i Inv-loop μ-loop
-add-i c = omega arith
-
-loop-less : tie.Need-loop-less Inv-loop μ-loop
-loop-less c = omega arith
-
-loop-again : tie.Need-loop-again Inv-loop μ-loop
-loop-again c =
-    let l = c .before .before .loop in
-    let s = c .before .before .before .before .before .before .before .args .bytes .now in
-    let h : l .i < length s = omega (arith, ends (c .before .before .before)) in
-    (omega arith, rw length-set (l .inv .1), rw (add-one, add-suc) (rw (drop-cons s (l .i) 0 h) at (l .inv .2)))
-
-same-length : tie.Need-same-length Inv-loop μ-loop
-same-length c = c .before .loop .inv .1
-
-returns-2 : tie.Need-returns-2 Inv-loop μ-loop
+returns-2 : tie.Need-returns-2
 returns-2 c =
-    let l = c .before .loop in
-    let a = c .before .before .before .before .before .before .args in
-    let all : smaller (length (a .bytes .now)) (length (l .out) - a .at) ≤ l .i = rw (l .inv .1, ← c .before .before .least .ensures) (c .loop-test .left) in
-    sym (copied (l .out) (a .bytes .now) (a .at) (l .i) (omega arith) all) ∙ l .inv .2
+    let d = c .before .before .before .before .before .before in
+    let a = d .before .before .before .before .args in
+    c .before .before .write-few .ensures ∙ cut (a .out .now) (a .bytes .now) (a .at) (d .least .result) (omega (arith, d .before .if1 .left)) (d .least .ensures)
+
+slice-aggregate-write-eights : tie.Need-slice-aggregate-write-eights
+slice-aggregate-write-eights c = sym (lent (c .before .before .before))
+
+write-eights-requires : tie.Need-write-eights-requires
+write-eights-requires c κs =
+    let d = c .before .before .before in
+    rw (lent d) (omega (arith, c .before .before .if2 .left), omega (arith, within d .1, d .before .if1 .left))
+
+same-length-2 : tie.Need-same-length-2
+same-length-2 c = search needs
+
+returns-3 : tie.Need-returns-3
+returns-3 c =
+    let d = c .before .before .before .before .before .before in
+    let a = d .before .before .before .before .args in
+    c .before .before .write-eights .ensures ∙ cut (a .out .now) (a .bytes .now) (a .at) (d .least .result) (omega (arith, d .before .if1 .left)) (d .least .ensures)
 
 pub write-bytes-spec : {M : Type 1} → statement M
 write-bytes-spec =
     tie.close
     (tie.spec
-    Inv-loop
-    μ-loop
     returns
     sub-least
     least-requires
-    loop-holds
-    shared-slice-read-out
-    add-out
-    slice-write-out
-    add-i
-    loop-less
-    loop-again
+    slice-aggregate-write-few
+    write-few-requires
     same-length
-    returns-2)
+    returns-2
+    slice-aggregate-write-eights
+    write-eights-requires
+    same-length-2
+    returns-3)

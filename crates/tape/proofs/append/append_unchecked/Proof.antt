@@ -33,8 +33,8 @@ put-boolean-requires c κs = search needs
 enum-told-2 : tie.Need-enum-told-2
 enum-told-2 c = search needs
 
-put-bytes-requires : tie.Need-put-bytes-requires
-put-bytes-requires c κs = search needs
+put-bytes-unchecked-requires : tie.Need-put-bytes-unchecked-requires
+put-bytes-unchecked-requires c κs = search needs
 
 enum-known-event-4 : tie.Need-enum-known-event-4
 enum-known-event-4 c = search needs
@@ -66,8 +66,8 @@ put-eight-requires-3 c κs = search needs
 enum-told-3 : tie.Need-enum-told-3
 enum-told-3 c = search needs
 
-put-bytes-requires-2 : tie.Need-put-bytes-requires-2
-put-bytes-requires-2 c κs = search needs
+put-bytes-unchecked-requires-2 : tie.Need-put-bytes-unchecked-requires-2
+put-bytes-unchecked-requires-2 c κs = search needs
 
 enum-known-event-8 : tie.Need-enum-known-event-8
 enum-known-event-8 c = search needs
@@ -112,7 +112,7 @@ same-length-5 c = search needs
 
 returns-5 : tie.Need-returns-5
 unfolding meaningOf bytesFor
-returns-5 c = rw (c .before .before .before .before .enum-told2 .given .1) (c .before .before .put-bytes .ensures)
+returns-5 c = rw (c .before .before .before .before .enum-told2 .given .1) (c .before .before .put-bytes-unchecked .ensures)
 
 same-length-6 : tie.Need-same-length-6
 same-length-6 c = search needs
@@ -147,7 +147,7 @@ same-length-10 c = search needs
 
 returns-10 : tie.Need-returns-10
 unfolding meaningOf bytesFor
-returns-10 c = rw (c .before .before .before .before .enum-told3 .given .1) (c .before .before .put-bytes2 .ensures)
+returns-10 c = rw (c .before .before .before .before .enum-told3 .given .1) (c .before .before .put-bytes-unchecked2 .ensures)
 
 same-length-11 : tie.Need-same-length-11
 same-length-11 c = search needs
@@ -169,7 +169,7 @@ append-unchecked-spec =
     enum-known-event-3
     put-boolean-requires
     enum-told-2
-    put-bytes-requires
+    put-bytes-unchecked-requires
     enum-known-event-4
     put-eight-requires
     enum-known-event-5
@@ -180,7 +180,7 @@ append-unchecked-spec =
     enum-known-event-7
     put-eight-requires-3
     enum-told-3
-    put-bytes-requires-2
+    put-bytes-unchecked-requires-2
     enum-known-event-8
     put-number-requires
     same-length

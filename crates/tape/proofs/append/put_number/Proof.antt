@@ -8,33 +8,26 @@ use lib.Seq.{length-sets}
 use Rattle.tape.specs.Append.{said}
 use Rattle.tape.specs.AppendLaws.{put-none, put-room}
 use Rattle.tape.specs.Seven.{seven}
-use Rattle.tape.specs.SevenLaws.{seven-few}
 use Rattle.tape.proofs.Tests.{lacks, has}
 use Rattle.tape.proofs.append.put_number.Statement.{statement}
 use Rattle.tape.proofs.append.put_number.Tie as tie
 
-groups-in-requires : tie.Need-groups-in-requires
-groups-in-requires c κs = search needs
-
-add-lacks-room : tie.Need-add-lacks-room
-add-lacks-room c = omega (arith, c .groups-in .ensures, seven-few (c .before .before .args .n))
-
-lacks-room-requires : tie.Need-lacks-room-requires
-lacks-room-requires c κs = search needs
+lacks-number-requires : tie.Need-lacks-number-requires
+lacks-number-requires c κs = search needs
 
 returns : tie.Need-returns
 unfolding said
 returns c =
-    let a = c .before .before .before .before .args in
-    let l : length (a .tape .now) < a .held + (1 + c .before .before .groups-in .result) = lacks _ _ _ (c .before .lacks-room .ensures) (c .if1 .taken) in
-    put-none (a .tape .now) (a .held) (a .kind) (seven (a .n)) (omega (arith, c .before .before .groups-in .ensures))
+    let a = c .before .before .before .args in
+    let l : length (a .tape .now) < a .held + (1 + length (seven (a .n))) = lacks _ _ _ (c .before .lacks-number .ensures) (c .if1 .taken) in
+    put-none (a .tape .now) (a .held) (a .kind) (seven (a .n)) (omega arith)
 
 -- there is room
-room : (c : tie.Else1) → let a = c .before .before .before .before .args in a .held + suc (length (seven (a .n))) ≤ length (a .tape .now)
+room : (c : tie.Else1) → let a = c .before .before .before .args in a .held + suc (length (seven (a .n))) ≤ length (a .tape .now)
 room c =
-    let a = c .before .before .before .before .args in
-    let h : a .held + (1 + c .before .before .groups-in .result) ≤ length (a .tape .now) = has _ _ _ (c .before .lacks-room .ensures) (c .if1 .left) in
-    omega (arith, c .before .before .groups-in .ensures)
+    let a = c .before .before .before .args in
+    let h : a .held + (1 + length (seven (a .n))) ≤ length (a .tape .now) = has _ _ _ (c .before .lacks-number .ensures) (c .if1 .left) in
+    omega arith
 
 slice-write-tape : tie.Need-slice-write-tape
 slice-write-tape c = omega (arith, room c)
@@ -51,7 +44,7 @@ same-length c = ap length (c .before .before .write-number .ensures .1) ∙ simp
 returns-2 : tie.Need-returns-2
 unfolding said
 returns-2 c =
-    let a = c .before .before .before .before .before .before .before .before .args in
+    let a = c .before .before .before .before .before .before .before .args in
     let w = c .before .before .write-number .ensures in
     put-room (a .tape .now) (a .held) (a .kind) (seven (a .n)) (room (c .before .before .before .before)) (w .0) (w .1)
 
@@ -59,9 +52,7 @@ pub put-number-spec : {M : Type 1} → statement M
 put-number-spec =
     tie.close
     (tie.spec
-    groups-in-requires
-    add-lacks-room
-    lacks-room-requires
+    lacks-number-requires
     returns
     slice-write-tape
     add-write-number

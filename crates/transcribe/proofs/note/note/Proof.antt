@@ -6,7 +6,7 @@ use Rattle.number.specs.BeLaws.{bytes-of}
 use Rattle.layout.specs.Said.{numberOf, valuesOf}
 use Rattle.transcribe.specs.Note.{fromTape}
 use Rattle.transcribe.specs.Said.{noteSaid, failSaid}
-use Rattle.transcribe.proofs.Noting.{never-denied, is-bare, plain-noted, file-end, file-noted, utf16-end, never-bad, long-noted, text-fits, utf16-noted}
+use Rattle.transcribe.proofs.Noting.{never-denied, is-bare, plain-noted, file-end, file-has, file-noted, utf16-end, utf16-has, never-bad, long-noted, text-fits, utf16-noted}
 use borrow.Author.Needs.{needs}
 use Rattle.transcribe.proofs.note.note.Statement.{statement}
 use Rattle.transcribe.proofs.note.note.Tie as tie
@@ -23,17 +23,20 @@ enum-known-bytes c = search needs
 add-end : tie.Need-add-end
 add-end c = omega (arith, file-end (c .before .before .before .before .before .before .before .pre) (c .before .before .bytes .given .1))
 
-sub-append-unchecked : tie.Need-sub-append-unchecked
-sub-append-unchecked c = search needs
+bytes-kind-requires : tie.Need-bytes-kind-requires
+bytes-kind-requires c κs = file-has (c .before .before .before .before .before .before .before .pre) (c .before .before .bytes .given .1)
 
-part-append-unchecked-start : tie.Need-part-append-unchecked-start
-part-append-unchecked-start c = search needs
+sub-put-bytes-unchecked : tie.Need-sub-put-bytes-unchecked
+sub-put-bytes-unchecked c = search needs
 
-part-append-unchecked-end : tie.Need-part-append-unchecked-end
-part-append-unchecked-end c = file-end (c .before .before .before .before .before .before .before .before .pre) (c .before .before .before .bytes .given .1)
+part-put-bytes-unchecked-start : tie.Need-part-put-bytes-unchecked-start
+part-put-bytes-unchecked-start c = search needs
 
-append-unchecked-requires : tie.Need-append-unchecked-requires
-append-unchecked-requires c κs = search needs
+part-put-bytes-unchecked-end : tie.Need-part-put-bytes-unchecked-end
+part-put-bytes-unchecked-end c = file-end (c .before .before .before .before .before .before .before .before .before .pre) (c .before .before .before .before .bytes .given .1)
+
+put-bytes-unchecked-requires : tie.Need-put-bytes-unchecked-requires
+put-bytes-unchecked-requires c κs = search needs
 
 noted-requires : tie.Need-noted-requires
 noted-requires c κs = search needs
@@ -59,18 +62,21 @@ utf16-to-utf8-requires c κs = search needs
 enum-known-n : tie.Need-enum-known-n
 enum-known-n c = search needs
 
-slice-reshare-prefix-append-unchecked : tie.Need-slice-reshare-prefix-append-unchecked
-slice-reshare-prefix-append-unchecked c =
-    let u = c .before .before .before .before .before .before .utf16-to-utf8 in
-    text-fits (c .before .before .before .before .before .before .before .before .before .before .before .before .before .before .before .before .pre) (c .before .before .before .before .before .before .before .before .before .before .before .bytes2 .given .1) (c .before .before .before .before .before .before .before .before .before .before .before .before .before .before .before .before .args .scratch .now) (u .result) (u .ensures .0) _ (u .ensures .1) (c .before .before .n .given .1)
+bytes-kind-requires-2 : tie.Need-bytes-kind-requires-2
+bytes-kind-requires-2 c κs = utf16-has (c .before .before .before .before .before .before .before .before .before .before .before .before .before .before .before .pre) (c .before .before .before .before .before .before .before .before .before .before .bytes2 .given .1)
 
-slice-aggregate-append-unchecked : tie.Need-slice-aggregate-append-unchecked
-slice-aggregate-append-unchecked c =
+slice-reshare-prefix-put-bytes-unchecked : tie.Need-slice-reshare-prefix-put-bytes-unchecked
+slice-reshare-prefix-put-bytes-unchecked c =
     let u = c .before .before .before .before .before .before .before .utf16-to-utf8 in
-    sym (length-take-le _ _ (text-fits (c .before .before .before .before .before .before .before .before .before .before .before .before .before .before .before .before .before .pre) (c .before .before .before .before .before .before .before .before .before .before .before .before .bytes2 .given .1) (c .before .before .before .before .before .before .before .before .before .before .before .before .before .before .before .before .before .args .scratch .now) (u .result) (u .ensures .0) _ (u .ensures .1) (c .before .before .before .n .given .1)))
+    text-fits (c .before .before .before .before .before .before .before .before .before .before .before .before .before .before .before .before .before .pre) (c .before .before .before .before .before .before .before .before .before .before .before .before .bytes2 .given .1) (c .before .before .before .before .before .before .before .before .before .before .before .before .before .before .before .before .before .args .scratch .now) (u .result) (u .ensures .0) _ (u .ensures .1) (c .before .before .before .n .given .1)
 
-append-unchecked-requires-2 : tie.Need-append-unchecked-requires-2
-append-unchecked-requires-2 c κs = search needs
+slice-aggregate-put-bytes-unchecked : tie.Need-slice-aggregate-put-bytes-unchecked
+slice-aggregate-put-bytes-unchecked c =
+    let u = c .before .before .before .before .before .before .before .before .utf16-to-utf8 in
+    sym (length-take-le _ _ (text-fits (c .before .before .before .before .before .before .before .before .before .before .before .before .before .before .before .before .before .before .pre) (c .before .before .before .before .before .before .before .before .before .before .before .before .before .bytes2 .given .1) (c .before .before .before .before .before .before .before .before .before .before .before .before .before .before .before .before .before .before .args .scratch .now) (u .result) (u .ensures .0) _ (u .ensures .1) (c .before .before .before .before .n .given .1)))
+
+put-bytes-unchecked-requires-2 : tie.Need-put-bytes-unchecked-requires-2
+put-bytes-unchecked-requires-2 c κs = search needs
 
 noted-requires-2 : tie.Need-noted-requires-2
 noted-requires-2 c κs = search needs
@@ -98,9 +104,9 @@ same-length-2 c = search needs
 
 returns-2 : tie.Need-returns-2
 returns-2 c =
-    let a = c .before .before .before .before .before .before .before .before .before .before .before .before .before .args in
-    let p = c .before .before .before .append-unchecked in
-    file-noted (c .before .before .before .before .before .before .before .before .before .before .before .before .before .pre) (c .before .before .before .before .before .before .before .before .bytes .given .1) (a .scratch .now) (a .tape .now) (a .held) _ _ (c .noted .ensures ∙ ap fromTape (p .ensures .0)) (p .ensures .1)
+    let a = c .before .before .before .before .before .before .before .before .before .before .before .before .before .before .args in
+    let p = c .before .before .before .put-bytes-unchecked in
+    file-noted (c .before .before .before .before .before .before .before .before .before .before .before .before .before .before .pre) (c .before .before .before .before .before .before .before .before .before .bytes .given .1) (a .scratch .now) (a .tape .now) (a .held) _ _ (c .before .before .before .before .before .before .bytes-kind .ensures) (c .noted .ensures ∙ ap fromTape (p .ensures .0)) (p .ensures .1)
 
 same-length-3 : tie.Need-same-length-3
 same-length-3 c = search needs
@@ -110,10 +116,10 @@ same-length-4 c = search needs
 
 returns-3 : tie.Need-returns-3
 returns-3 c =
-    let a = c .before .before .before .before .before .before .before .before .before .before .before .before .before .before .before .before .before .before .before .before .before .args in
-    let p = c .before .before .before .append-unchecked2 in
-    let u = c .before .before .before .before .before .before .before .before .before .before .before .utf16-to-utf8 in
-    utf16-noted (c .before .before .before .before .before .before .before .before .before .before .before .before .before .before .before .before .before .before .before .before .before .pre) (c .before .before .before .before .before .before .before .before .before .before .before .before .before .before .before .before .bytes2 .given .1) (a .scratch .now) (u .result) (u .ensures .0) _ (u .ensures .1) (c .before .before .before .before .before .before .before .n .given .1) (bytes-of (a .file .now) (λ i. omega (arith, c .before .before .before .before .before .before .before .before .before .before .before .before .before .before .before .before .before .before .before .before .shared-slice-known .given i))) (a .tape .now) (a .held) _ _ (c .noted2 .ensures ∙ ap fromTape (p .ensures .0)) (p .ensures .1)
+    let a = c .before .before .before .before .before .before .before .before .before .before .before .before .before .before .before .before .before .before .before .before .before .before .args in
+    let p = c .before .before .before .put-bytes-unchecked2 in
+    let u = c .before .before .before .before .before .before .before .before .before .before .before .before .utf16-to-utf8 in
+    utf16-noted (c .before .before .before .before .before .before .before .before .before .before .before .before .before .before .before .before .before .before .before .before .before .before .pre) (c .before .before .before .before .before .before .before .before .before .before .before .before .before .before .before .before .before .bytes2 .given .1) (a .scratch .now) (u .result) (u .ensures .0) _ (u .ensures .1) (c .before .before .before .before .before .before .before .before .n .given .1) (bytes-of (a .file .now) (λ i. omega (arith, c .before .before .before .before .before .before .before .before .before .before .before .before .before .before .before .before .before .before .before .before .before .shared-slice-known .given i))) (a .tape .now) (a .held) _ _ (c .before .before .before .before .before .before .bytes-kind2 .ensures) (c .noted2 .ensures ∙ ap fromTape (p .ensures .0)) (p .ensures .1)
 
 same-length-5 : tie.Need-same-length-5
 same-length-5 c = search needs
@@ -144,10 +150,11 @@ note-spec =
     note-plain-requires
     enum-known-bytes
     add-end
-    sub-append-unchecked
-    part-append-unchecked-start
-    part-append-unchecked-end
-    append-unchecked-requires
+    bytes-kind-requires
+    sub-put-bytes-unchecked
+    part-put-bytes-unchecked-start
+    part-put-bytes-unchecked-end
+    put-bytes-unchecked-requires
     noted-requires
     enum-known-bytes-2
     add-end-2
@@ -156,9 +163,10 @@ note-spec =
     part-utf16-to-utf8-end
     utf16-to-utf8-requires
     enum-known-n
-    slice-reshare-prefix-append-unchecked
-    slice-aggregate-append-unchecked
-    append-unchecked-requires-2
+    bytes-kind-requires-2
+    slice-reshare-prefix-put-bytes-unchecked
+    slice-aggregate-put-bytes-unchecked
+    put-bytes-unchecked-requires-2
     noted-requires-2
     enum-told-2
     enum-told-3

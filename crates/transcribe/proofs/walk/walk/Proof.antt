@@ -3,7 +3,8 @@ use mathlib.Core.Path.{_≡_, refl, sym, ap, _∙_}
 use Prim.Native.Nat.{_≤_}
 use native.Mathlib.Omega.{arith}
 use borrow.Author.Needs.{needs}
-use lib.ListN.{length, replicate}
+use lib.ListN.{length, length-set, replicate}
+use lib.Seq.{length-take-le}
 use lib.Dec.{lit≤}
 use Rattle.layout.specs.LookLaws.{placed-scalar, placed-container}
 use Rattle.layout.specs.Looked.{scalar, container}
@@ -16,16 +17,16 @@ use Rattle.reader.specs.State.{maxOpen}
 use Rattle.reader.specs.Next.{laidOut}
 use Rattle.transcribe.specs.Said.{noteSaid, endSaid}
 use Rattle.transcribe.specs.Run.{onward}
-use Rattle.transcribe.proofs.Walking.{Stands, leftOf, due, looked, short-number, short-length, Turn, call-root, is-wrong, close-fails, close-finishes, close-goes, is-refused, notable, counts, scalar-fails, scalar-finishes, scalar-goes, scalar-stands, is-open-now, is-deep, enter-fails, enter-goes, enter-stands, still-long}
-use Rattle.transcribe.specs.HandedLaws.{start-bare}
+use Rattle.transcribe.proofs.Listed.{Listed}
+use Rattle.transcribe.proofs.Walking.{Stands, leftOf, due, looked, short-number, short-length, Turn, call-root, is-wrong, close-fails, close-finishes, close-goes, is-refused, notable, counts, scalar-fails, scalar-finishes, scalar-goes, scalar-stands, is-open-now, is-deep, enter-fails, enter-goes, enter-stands, still-long, sought, close-lists, scalar-lists, enter-lists}
 use Rattle.transcribe.proofs.walk.walk.Statement.{statement}
 use Rattle.transcribe.proofs.walk.walk.Tie as tie
 
 abbrev Inv-loop : tie.InvT-loop
-Inv-loop file scratch₀ tape₀ budget layout root frames₀ depth₀ place₀ held₀ left₀ standing₀ scratch tape frames depth place held left standing = (length scratch ≡ length scratch₀) × (length tape ≡ length tape₀) × (depth ≤ maxOpen) × (depth ≡ 0 → frames ≡ replicate maxOpen noFrame) × (leftOf file layout root left scratch tape held place depth frames ≡ onward budget file scratch₀ tape₀ 0 (arrive (laidOut file layout) root (lookOf file layout root))) × (length frames ≡ maxOpen) × Stands file layout standing depth frames
+Inv-loop file scratch₀ tape₀ budget layout root frames₀ numbers₀ depth₀ place₀ held₀ left₀ standing₀ scratch tape frames numbers depth place held left standing = (length scratch ≡ length scratch₀) × (length tape ≡ length tape₀) × (depth ≤ maxOpen) × (depth ≡ 0 → frames ≡ replicate maxOpen noFrame) × (leftOf file layout root left scratch tape held place depth frames ≡ onward budget file scratch₀ tape₀ 0 (arrive (laidOut file layout) root (lookOf file layout root))) × (length frames ≡ maxOpen) × Stands file layout standing depth frames × (length numbers ≡ maxOpen) × Listed depth frames numbers
 
 abbrev μ-loop : tie.MeasureT-loop
-μ-loop file scratch₀ tape₀ budget layout root frames₀ depth₀ place₀ held₀ left₀ standing₀ scratch tape frames depth place held left standing = left
+μ-loop file scratch₀ tape₀ budget layout root frames₀ numbers₀ depth₀ place₀ held₀ left₀ standing₀ scratch tape frames numbers depth place held left standing = left
 
 -- the turn, as it stands once what is due is known
 abbrev turn : tie.After-due-now Inv-loop μ-loop → Turn
@@ -43,6 +44,7 @@ turn c =
       place = l .place;
       depth = l .depth;
       frames = l .frames;
+      numbers = l .numbers;
       top = c .before .before .innermost .result;
       standing = l .standing;
       whole = onward (a .budget) (a .file .now) (a .scratch .now) (a .tape .now) 0 (arrive (laidOut (a .file .now) (a .layout)) (a .root) (lookOf (a .file .now) (a .layout) (a .root)));
@@ -51,8 +53,10 @@ turn c =
       some = c .before .before .before .loop-test .taken;
       fits = l .inv .2;
       long = l .inv .5;
+      many = l .inv .7;
       at = c .before .before .innermost .ensures;
       stands = l .inv .6;
+      listed = l .inv .8;
       is = l .inv .4;
     }
 
@@ -76,7 +80,7 @@ cast-place : tie.Need-cast-place Inv-loop μ-loop
 cast-place c = search needs
 
 loop-holds : tie.Need-loop-holds Inv-loop μ-loop
-loop-holds c = (refl, refl, lit≤ tt, λ e. refl, ap (onward (c .before .before .before .before .args .budget) (c .before .before .before .before .args .file .now) (c .before .before .before .before .args .scratch .now) (c .before .before .before .before .args .tape .now) 0) (call-root (c .before .before .before .before .args .file .now) (c .before .before .before .before .args .layout) (c .before .before .before .before .args .root)), refl, λ e. absurd (e refl))
+loop-holds c = (refl, refl, lit≤ tt, λ e. refl, ap (onward (c .before .before .before .before .args .budget) (c .before .before .before .before .args .file .now) (c .before .before .before .before .args .scratch .now) (c .before .before .before .before .args .tape .now) 0) (call-root (c .before .before .before .before .args .file .now) (c .before .before .before .before .args .layout) (c .before .before .before .before .args .root)), refl, λ e. absurd (e refl), refl, refl)
 
 sub-left : tie.Need-sub-left Inv-loop μ-loop
 sub-left c = search needs
@@ -112,8 +116,8 @@ returns c = rw (c .refused .ensures .0, c .refused .ensures .1) (is-wrong (turn 
 enum-told-2 : tie.Need-enum-told-2 Inv-loop μ-loop
 enum-told-2 c = search needs
 
-note-plain-requires : tie.Need-note-plain-requires Inv-loop μ-loop
-note-plain-requires c κs = tt
+note-end-requires : tie.Need-note-end-requires Inv-loop μ-loop
+note-end-requires c κs = search needs
 
 enum-known-failure : tie.Need-enum-known-failure Inv-loop μ-loop
 enum-known-failure c = search needs
@@ -125,11 +129,11 @@ same-length-3 : tie.Need-same-length-3 Inv-loop μ-loop
 same-length-3 c = c .before .before .before .before .before .before .before .before .before .before .before .before .before .before .loop .inv .0
 
 same-length-4 : tie.Need-same-length-4 Inv-loop μ-loop
-same-length-4 c = c .before .before .before .before .before .before .note-plain .kept .0 ∙ c .before .before .before .before .before .before .before .before .before .before .before .before .before .before .loop .inv .1
+same-length-4 c = c .before .before .before .before .before .before .note-end .kept .0 ∙ c .before .before .before .before .before .before .before .before .before .before .before .before .before .before .loop .inv .1
 
 returns-2 : tie.Need-returns-2 Inv-loop μ-loop
 unfolding noteSaid
-returns-2 c = rw (c .failed .ensures .0, c .failed .ensures .1) (close-fails (turn (c .before .before .before .before .before .before .before .before .before .before)) _ (due-close (c .before .before .before .before .before .before .before .before)) _ _ (c .before .before .before .before .before .before .note-plain .ensures .0) (c .before .before .before .before .before .before .note-plain .ensures .1) _ (ap noteSaid (c .before .before .failure .given .1)))
+returns-2 c = rw (c .failed .ensures .0, c .failed .ensures .1) (close-fails (turn (c .before .before .before .before .before .before .before .before .before .before)) _ (due-close (c .before .before .before .before .before .before .before .before)) _ _ (c .before .before .before .before .before .before .note-end .ensures .0) (c .before .before .before .before .before .before .note-end .ensures .1) _ (ap noteSaid (c .before .before .failure .given .1)))
 
 enum-known-n : tie.Need-enum-known-n Inv-loop μ-loop
 enum-known-n c = search needs
@@ -141,11 +145,11 @@ same-length-5 : tie.Need-same-length-5 Inv-loop μ-loop
 same-length-5 c = c .before .before .before .before .before .before .before .before .before .before .before .before .before .before .before .loop .inv .0
 
 same-length-6 : tie.Need-same-length-6 Inv-loop μ-loop
-same-length-6 c = c .before .before .before .before .before .before .before .note-plain .kept .0 ∙ c .before .before .before .before .before .before .before .before .before .before .before .before .before .before .before .loop .inv .1
+same-length-6 c = c .before .before .before .before .before .before .before .note-end .kept .0 ∙ c .before .before .before .before .before .before .before .before .before .before .before .before .before .before .before .loop .inv .1
 
 returns-3 : tie.Need-returns-3 Inv-loop μ-loop
 unfolding noteSaid
-returns-3 c = rw (c .finished .ensures .0, c .finished .ensures .1) (close-finishes (turn (c .before .before .before .before .before .before .before .before .before .before .before)) _ (due-close (c .before .before .before .before .before .before .before .before .before)) _ _ (c .before .before .before .before .before .before .before .note-plain .ensures .0) (c .before .before .before .before .before .before .before .note-plain .ensures .1) (c .before .if1 .taken) _ (ap noteSaid (c .before .before .before .n .given .1)))
+returns-3 c = rw (c .finished .ensures .0, c .finished .ensures .1) (close-finishes (turn (c .before .before .before .before .before .before .before .before .before .before .before)) _ (due-close (c .before .before .before .before .before .before .before .before .before)) _ _ (c .before .before .before .before .before .before .before .note-end .ensures .0) (c .before .before .before .before .before .before .before .note-end .ensures .1) (c .before .if1 .taken) _ (ap noteSaid (c .before .before .before .n .given .1)))
 
 mul-frames : tie.Need-mul-frames Inv-loop μ-loop
 mul-frames c = search needs
@@ -173,12 +177,14 @@ unfolding noteSaid
 loop-again c =
     let x = turn (c .before .before .before .before .before .before .before .before .before .before .before) in (
       c .before .before .before .before .before .before .before .before .before .before .before .before .before .before .before .loop .inv .0,
-      c .before .before .before .before .before .before .before .note-plain .kept .0 ∙ c .before .before .before .before .before .before .before .before .before .before .before .before .before .before .before .loop .inv .1,
+      c .before .before .before .before .before .before .before .note-end .kept .0 ∙ c .before .before .before .before .before .before .before .before .before .before .before .before .before .before .before .loop .inv .1,
       omega (arith, x .at, x .fits),
       λ e. absurd (c .before .if1 .left e),
-      close-goes x _ (due-close (c .before .before .before .before .before .before .before .before .before)) _ _ (c .before .before .before .before .before .before .before .note-plain .ensures .0) (c .before .before .before .before .before .before .before .note-plain .ensures .1) (c .before .if1 .left) _ (ap noteSaid (c .before .before .before .n .given .1)),
+      close-goes x _ (due-close (c .before .before .before .before .before .before .before .before .before)) _ _ (c .before .before .before .before .before .before .before .note-end .ensures .0) (c .before .before .before .before .before .before .before .note-end .ensures .1) (c .before .if1 .left) _ (ap noteSaid (c .before .before .before .n .given .1)),
       search needs,
       λ e. c .stands-at .ensures,
+      c .before .before .before .before .before .before .before .before .before .before .before .before .before .before .before .loop .inv .7,
+      close-lists x,
     )
 
 enum-known-object : tie.Need-enum-known-object Inv-loop μ-loop
@@ -270,6 +276,8 @@ loop-again-2 c = (
   scalar-goes (turn (c .before .before .before .before .before .before .before .before .before .before .before .before .before .before .before .before .before .before .before)) _ (due-member (c .before .before .before .before .before .before .before .before .before .before .before .before .before .before .before .before .before)) _ _ (found-scalar (c .before .before .before .before .before .before .before .before .before .before .before .before .before)) _ _ _ (c .before .before .before .before .before .before .before .before .before .note .ensures) (c .before .if2 .left) _ (ap noteSaid (c .before .before .before .n2 .given .1)),
   search needs,
   scalar-stands (turn (c .before .before .before .before .before .before .before .before .before .before .before .before .before .before .before .before .before .before .before)) _ (due-member (c .before .before .before .before .before .before .before .before .before .before .before .before .before .before .before .before .before)) _ _ (found-scalar (c .before .before .before .before .before .before .before .before .before .before .before .before .before)) _ _ _ (c .before .before .before .before .before .before .before .before .before .note .ensures),
+  c .before .before .before .before .before .before .before .before .before .before .before .before .before .before .before .before .before .before .before .before .before .before .before .loop .inv .7,
+  scalar-lists (turn (c .before .before .before .before .before .before .before .before .before .before .before .before .before .before .before .before .before .before .before)),
 )
 
 enum-known-shape : tie.Need-enum-known-shape Inv-loop μ-loop
@@ -278,40 +286,45 @@ enum-known-shape c = search needs
 cast-number : tie.Need-cast-number Inv-loop μ-loop
 cast-number c = omega (arith, short-number (turn (c .before .before .before .before .before .before .before)) _ _ _ _ (found-container (c .before)))
 
-is-open-requires : tie.Need-is-open-requires Inv-loop μ-loop
-is-open-requires c κs = search needs
+array-share-prefix-numbers : tie.Need-array-share-prefix-numbers Inv-loop μ-loop
+array-share-prefix-numbers c = omega (arith, c .before .before .before .before .before .before .before .before .before .before .before .loop .inv .2, c .before .before .before .before .before .before .before .before .before .before .before .loop .inv .7)
+
+slice-aggregate-is-among : tie.Need-slice-aggregate-is-among Inv-loop μ-loop
+slice-aggregate-is-among c =
+    let l = c .before .before .before .before .before .before .before .before .before .before .before .before .loop in
+    sym (length-take-le (l .depth) (l .numbers) (omega (arith, l .inv .2, l .inv .7)))
+
+is-among-requires : tie.Need-is-among-requires Inv-loop μ-loop
+is-among-requires c κs = search needs
 
 refused-requires-3 : tie.Need-refused-requires-3 Inv-loop μ-loop
 refused-requires-3 c κs = search needs
 
 same-length-13 : tie.Need-same-length-13 Inv-loop μ-loop
-same-length-13 c = c .before .before .before .before .before .before .before .before .before .before .before .before .before .before .loop .inv .0
+same-length-13 c = c .before .before .before .before .before .before .before .before .before .before .before .before .before .before .before .loop .inv .0
 
 same-length-14 : tie.Need-same-length-14 Inv-loop μ-loop
-same-length-14 c = c .before .before .before .before .before .before .before .before .before .before .before .before .before .before .loop .inv .1
+same-length-14 c = c .before .before .before .before .before .before .before .before .before .before .before .before .before .before .before .loop .inv .1
 
 returns-7 : tie.Need-returns-7 Inv-loop μ-loop
 unfolding numberOf valuesOf
-returns-7 c = rw (c .refused3 .ensures .0, c .refused3 .ensures .1) (is-open-now (turn (c .before .before .before .before .before .before .before .before .before .before)) _ (due-member (c .before .before .before .before .before .before .before .before)) _ _ _ (found-container (c .before .before .before .before)) (sym (c .before .before .is-open .ensures) ∙ c .before .if3 .taken))
+returns-7 c = rw (c .refused3 .ensures .0, c .refused3 .ensures .1) (is-open-now (turn (c .before .before .before .before .before .before .before .before .before .before .before)) _ (due-member (c .before .before .before .before .before .before .before .before .before)) _ _ _ (found-container (c .before .before .before .before .before)) (sought (turn (c .before .before .before .before .before .before .before .before .before .before .before)) _ ∙ sym (c .before .before .is-among .ensures) ∙ c .before .if3 .taken))
 
 refused-requires-4 : tie.Need-refused-requires-4 Inv-loop μ-loop
 refused-requires-4 c κs = search needs
 
 same-length-15 : tie.Need-same-length-15 Inv-loop μ-loop
-same-length-15 c = c .before .before .before .before .before .before .before .before .before .before .before .before .before .before .before .loop .inv .0
+same-length-15 c = c .before .before .before .before .before .before .before .before .before .before .before .before .before .before .before .before .loop .inv .0
 
 same-length-16 : tie.Need-same-length-16 Inv-loop μ-loop
-same-length-16 c = c .before .before .before .before .before .before .before .before .before .before .before .before .before .before .before .loop .inv .1
+same-length-16 c = c .before .before .before .before .before .before .before .before .before .before .before .before .before .before .before .before .loop .inv .1
 
 returns-8 : tie.Need-returns-8 Inv-loop μ-loop
 unfolding numberOf valuesOf
-returns-8 c = rw (c .refused4 .ensures .0, c .refused4 .ensures .1) (is-deep (turn (c .before .before .before .before .before .before .before .before .before .before .before)) _ (due-member (c .before .before .before .before .before .before .before .before .before)) _ _ _ (found-container (c .before .before .before .before .before)) (sym (c .before .before .before .is-open .ensures) ∙ c .before .before .if3 .left) (c .before .if4 .taken))
+returns-8 c = rw (c .refused4 .ensures .0, c .refused4 .ensures .1) (is-deep (turn (c .before .before .before .before .before .before .before .before .before .before .before .before)) _ (due-member (c .before .before .before .before .before .before .before .before .before .before)) _ _ _ (found-container (c .before .before .before .before .before .before)) (sought (turn (c .before .before .before .before .before .before .before .before .before .before .before .before)) _ ∙ sym (c .before .before .before .is-among .ensures) ∙ c .before .before .if3 .left) (c .before .if4 .taken))
 
-start-of-requires : tie.Need-start-of-requires Inv-loop μ-loop
-start-of-requires c κs = search needs
-
-note-plain-requires-2 : tie.Need-note-plain-requires-2 Inv-loop μ-loop
-note-plain-requires-2 c κs = rw (c .start-of .ensures) (start-bare _ _)
+note-start-requires : tie.Need-note-start-requires Inv-loop μ-loop
+note-start-requires c κs = search needs
 
 enum-known-failure-3 : tie.Need-enum-known-failure-3 Inv-loop μ-loop
 enum-known-failure-3 c = search needs
@@ -323,11 +336,11 @@ same-length-17 : tie.Need-same-length-17 Inv-loop μ-loop
 same-length-17 c = c .before .before .before .before .before .before .before .before .before .before .before .before .before .before .before .before .before .before .before .before .before .before .before .loop .inv .0
 
 same-length-18 : tie.Need-same-length-18 Inv-loop μ-loop
-same-length-18 c = c .before .before .before .before .before .before .note-plain2 .kept .0 ∙ c .before .before .before .before .before .before .before .before .before .before .before .before .before .before .before .before .before .before .before .before .before .before .before .loop .inv .1
+same-length-18 c = c .before .before .before .before .before .before .note-start .kept .0 ∙ c .before .before .before .before .before .before .before .before .before .before .before .before .before .before .before .before .before .before .before .before .before .before .before .loop .inv .1
 
 returns-9 : tie.Need-returns-9 Inv-loop μ-loop
 unfolding noteSaid
-returns-9 c = rw (c .failed3 .ensures .0, c .failed3 .ensures .1) (enter-fails (turn (c .before .before .before .before .before .before .before .before .before .before .before .before .before .before .before .before .before .before .before)) _ (due-member (c .before .before .before .before .before .before .before .before .before .before .before .before .before .before .before .before .before)) _ _ _ (found-container (c .before .before .before .before .before .before .before .before .before .before .before .before .before)) (sym (c .before .before .before .before .before .before .before .before .before .before .before .is-open .ensures) ∙ c .before .before .before .before .before .before .before .before .before .before .if3 .left) (c .before .before .before .before .before .before .before .before .before .if4 .left) _ (c .before .before .before .before .before .before .before .start-of .ensures) _ _ (c .before .before .before .before .before .before .note-plain2 .ensures .0) (c .before .before .before .before .before .before .note-plain2 .ensures .1) _ (ap noteSaid (c .before .before .failure3 .given .1)))
+returns-9 c = rw (c .failed3 .ensures .0, c .failed3 .ensures .1) (enter-fails (turn (c .before .before .before .before .before .before .before .before .before .before .before .before .before .before .before .before .before .before .before)) _ (due-member (c .before .before .before .before .before .before .before .before .before .before .before .before .before .before .before .before .before)) _ _ _ (found-container (c .before .before .before .before .before .before .before .before .before .before .before .before .before)) (sought (turn (c .before .before .before .before .before .before .before .before .before .before .before .before .before .before .before .before .before .before .before)) _ ∙ sym (c .before .before .before .before .before .before .before .before .before .before .is-among .ensures) ∙ c .before .before .before .before .before .before .before .before .before .if3 .left) (c .before .before .before .before .before .before .before .before .if4 .left) _ refl _ _ (c .before .before .before .before .before .before .note-start .ensures .0) (c .before .before .before .before .before .before .note-start .ensures .1) _ (ap noteSaid (c .before .before .failure3 .given .1)))
 
 enum-known-n-3 : tie.Need-enum-known-n-3 Inv-loop μ-loop
 enum-known-n-3 c = search needs
@@ -346,6 +359,12 @@ mul-frames-5 c = search needs
 
 way-write-given-frames-2 : tie.Need-way-write-given-frames-2 Inv-loop μ-loop
 way-write-given-frames-2 c = search needs
+
+mul-numbers : tie.Need-mul-numbers Inv-loop μ-loop
+mul-numbers c = search needs
+
+array-write-numbers : tie.Need-array-write-numbers Inv-loop μ-loop
+array-write-numbers c = search needs
 
 cast-t79 : tie.Need-cast-t79 Inv-loop μ-loop
 cast-t79 c = omega (arith, short-length (turn (c .before .before .before .before .before .before .before .before .before .before .before .before .before .before .before .before .before .before .before)) _ _ _ _ (found-container (c .before .before .before .before .before .before .before .before .before .before .before .before .before)))
@@ -369,12 +388,14 @@ loop-again-3 : tie.Need-loop-again-3 Inv-loop μ-loop
 unfolding noteSaid nextIn
 loop-again-3 c = (
   c .before .before .before .before .before .before .before .before .before .before .before .before .before .before .before .before .before .before .before .before .before .before .before .before .loop .inv .0,
-  c .before .before .before .before .before .before .before .note-plain2 .kept .0 ∙ c .before .before .before .before .before .before .before .before .before .before .before .before .before .before .before .before .before .before .before .before .before .before .before .before .loop .inv .1,
+  c .before .before .before .before .before .before .before .note-start .kept .0 ∙ c .before .before .before .before .before .before .before .before .before .before .before .before .before .before .before .before .before .before .before .before .before .before .before .before .loop .inv .1,
   omega arith,
   λ e. absurd (omega arith),
-  enter-goes (turn (c .before .before .before .before .before .before .before .before .before .before .before .before .before .before .before .before .before .before .before .before)) _ (due-member (c .before .before .before .before .before .before .before .before .before .before .before .before .before .before .before .before .before .before)) _ _ _ (found-container (c .before .before .before .before .before .before .before .before .before .before .before .before .before .before)) (sym (c .before .before .before .before .before .before .before .before .before .before .before .before .is-open .ensures) ∙ c .before .before .before .before .before .before .before .before .before .before .before .if3 .left) (c .before .before .before .before .before .before .before .before .before .before .if4 .left) _ (c .before .before .before .before .before .before .before .before .start-of .ensures) _ _ (c .before .before .before .before .before .before .before .note-plain2 .ensures .0) (c .before .before .before .before .before .before .before .note-plain2 .ensures .1) _ (ap noteSaid (c .before .before .before .n3 .given .1)),
+  enter-goes (turn (c .before .before .before .before .before .before .before .before .before .before .before .before .before .before .before .before .before .before .before .before)) _ (due-member (c .before .before .before .before .before .before .before .before .before .before .before .before .before .before .before .before .before .before)) _ _ _ (found-container (c .before .before .before .before .before .before .before .before .before .before .before .before .before .before)) (sought (turn (c .before .before .before .before .before .before .before .before .before .before .before .before .before .before .before .before .before .before .before .before)) _ ∙ sym (c .before .before .before .before .before .before .before .before .before .before .before .is-among .ensures) ∙ c .before .before .before .before .before .before .before .before .before .before .if3 .left) (c .before .before .before .before .before .before .before .before .before .if4 .left) _ refl _ _ (c .before .before .before .before .before .before .before .note-start .ensures .0) (c .before .before .before .before .before .before .before .note-start .ensures .1) _ (ap noteSaid (c .before .before .before .n3 .given .1)),
   still-long (turn (c .before .before .before .before .before .before .before .before .before .before .before .before .before .before .before .before .before .before .before .before)) _ _,
-  enter-stands (turn (c .before .before .before .before .before .before .before .before .before .before .before .before .before .before .before .before .before .before .before .before)) _ (due-member (c .before .before .before .before .before .before .before .before .before .before .before .before .before .before .before .before .before .before)) _ _ _ (found-container (c .before .before .before .before .before .before .before .before .before .before .before .before .before .before)) (c .before .before .before .before .before .before .before .before .before .before .if4 .left) _ (c .container-at .ensures),
+  enter-stands (turn (c .before .before .before .before .before .before .before .before .before .before .before .before .before .before .before .before .before .before .before .before)) _ (due-member (c .before .before .before .before .before .before .before .before .before .before .before .before .before .before .before .before .before .before)) _ _ _ (found-container (c .before .before .before .before .before .before .before .before .before .before .before .before .before .before)) (c .before .before .before .before .before .before .before .before .before .if4 .left) _ (c .container-at .ensures),
+  rw length-set (c .before .before .before .before .before .before .before .before .before .before .before .before .before .before .before .before .before .before .before .before .before .before .before .before .loop .inv .7),
+  enter-lists (turn (c .before .before .before .before .before .before .before .before .before .before .before .before .before .before .before .before .before .before .before .before)) (c .before .before .before .before .before .before .before .before .before .if4 .left) _ _,
 )
 
 same-length-19 : tie.Need-same-length-19 Inv-loop μ-loop
@@ -408,7 +429,7 @@ walk-spec =
     same-length-2
     returns
     enum-told-2
-    note-plain-requires
+    note-end-requires
     enum-known-failure
     failed-requires
     same-length-3
@@ -455,7 +476,9 @@ walk-spec =
     loop-again-2
     enum-known-shape
     cast-number
-    is-open-requires
+    array-share-prefix-numbers
+    slice-aggregate-is-among
+    is-among-requires
     refused-requires-3
     same-length-13
     same-length-14
@@ -464,8 +487,7 @@ walk-spec =
     same-length-15
     same-length-16
     returns-8
-    start-of-requires
-    note-plain-requires-2
+    note-start-requires
     enum-known-failure-3
     failed-requires-3
     same-length-17
@@ -477,6 +499,8 @@ walk-spec =
     add-frames-2
     mul-frames-5
     way-write-given-frames-2
+    mul-numbers
+    array-write-numbers
     cast-t79
     mul-frames-6
     array-set-from-frames-2

@@ -1,4 +1,4 @@
--- `put_bytes` writes the kind, the length and the bytes, where there is room for all of them.
+-- `put_bytes_unchecked` writes the kind, the length and the bytes, where there is room for all of them.
 use mathlib.Core.List.{_++_}
 use mathlib.Core.Path.{_≡_, ap, sym, _∙_}
 use Prim.Native.Nat.{_+_, _≤_, _<_}
@@ -12,8 +12,8 @@ use Rattle.tape.specs.Seven.{seven}
 use Rattle.tape.specs.SevenLaws.{seven-few}
 use Rattle.unicode.proofs.Writing.{sets-append}
 use Rattle.tape.proofs.Tests.{lacks, has}
-use Rattle.tape.proofs.append.put_bytes.Statement.{statement}
-use Rattle.tape.proofs.append.put_bytes.Tie as tie
+use Rattle.tape.proofs.append.put_bytes_unchecked.Statement.{statement}
+use Rattle.tape.proofs.append.put_bytes_unchecked.Tie as tie
 
 groups-in-requires : tie.Need-groups-in-requires
 groups-in-requires c κs = search needs
@@ -95,8 +95,8 @@ returns-3 c =
     let n = length-append (seven (length s)) s in
     put-room (a .tape .now) (a .held) (a .kind) (seven (length s) ++ s) (omega arith) (omega (arith, c .before .before .before .before .before .before .write-number .ensures .0)) (after c)
 
-pub put-bytes-spec : {M : Type 1} → statement M
-put-bytes-spec =
+pub put-bytes-unchecked-spec : {M : Type 1} → statement M
+put-bytes-unchecked-spec =
     tie.close
     (tie.spec
     groups-in-requires

@@ -1,0 +1,95 @@
+-- The numbers of the open containers, kept beside their frames: through each turn they stay the same numbers.
+use mathlib.Core.Bool.{Bool, true, false, cond, _||_}
+use mathlib.Core.List.{List, [], _∷_, _++_, map}
+use mathlib.Core.Path.{_≡_, refl, sym, ap, _∙_}
+use Prim.Native.Nat.{ℕ, zero, suc, _+_, _≤_, _<_}
+use native.Mathlib.Numerals.{add-one}
+use native.Mathlib.Omega.{arith}
+use borrow.Author.Tests.{eq-eqb, ne-eqb, eqb-true, eqb-false}
+use lib.Dec.{eqb}
+use lib.ListN.{length, length-set, set, getD, take, drop, drop-of-length-le}
+use lib.Seq.{map-set-same, take-suc-set, take-set-le, take-take, drop-cons}
+use Rattle.number.specs.Among.{among}
+use Rattle.layout.specs.Frame.{newFrame, noFrame, nextIn}
+use Rattle.layout.specs.declared.frame.Frame.{Frame}
+use Rattle.reader.specs.State.{memberOf}
+
+abbrev pub objectOf : Frame → ℕ
+objectOf f = f .object
+
+-- as many numbers as containers are open are theirs
+abbrev pub Listed : ℕ → List Frame → List ℕ → Type 0
+Listed depth frames numbers = map objectOf (take depth frames) ≡ take depth numbers
+
+map-take : (n : ℕ) (l : List Frame) → map objectOf (take n l) ≡ take n (map objectOf l)
+map-take zero l = refl
+map-take (suc n) [] = refl
+map-take (suc n) (f ∷ fs) = ap (λ (s : List ℕ). f .object ∷ s) (map-take n fs)
+
+map-last : (l : List Frame) (f : Frame) → map objectOf (l ++ (f ∷ [])) ≡ map objectOf l ++ (f .object ∷ [])
+map-last [] f = refl
+map-last (g ∷ gs) f = ap (λ (s : List ℕ). g .object ∷ s) (map-last gs f)
+
+eqb-turned : (a b : ℕ) → eqb a b ≡ eqb b a
+eqb-turned a b = go (eqb b a) refl
+  where
+    go : (t : Bool) → eqb b a ≡ t → eqb a b ≡ t
+    go true e = eq-eqb a b (sym (eqb-true b a e))
+    go false e = ne-eqb a b (λ h. eqb-false b a e (sym h))
+
+either-way : (t u : Bool) → (t || u) ≡ cond t true u
+either-way true u = refl
+either-way false u = refl
+
+member-among : (l : List Frame) (n : ℕ) → memberOf l n ≡ among (map objectOf l) n
+unfolding memberOf among
+member-among [] n = refl
+member-among (f ∷ fs) n = rw (eqb-turned (f .object) n, member-among fs n) (either-way (eqb n (f .object)) _)
+
+-- so the search among them is the search among the frames
+pub listed-member : (depth : ℕ) (frames : List Frame) (numbers : List ℕ) (n : ℕ) → Listed depth frames numbers → memberOf (take depth frames) n ≡ among (take depth numbers) n
+listed-member depth frames numbers n h = member-among (take depth frames) n ∙ ap (λ (s : List ℕ). among s n) h
+
+-- the innermost container goes on
+onward-objects : (frames : List Frame) (top : ℕ) → map objectOf (set frames top (nextIn (getD frames top noFrame))) ≡ map objectOf frames
+unfolding nextIn
+onward-objects frames top = map-set-same objectOf frames top _ noFrame refl
+
+pub onward-listed : (depth top : ℕ) (frames : List Frame) (numbers : List ℕ) → Listed depth frames numbers → Listed depth (set frames top (nextIn (getD frames top noFrame))) numbers
+onward-listed depth top frames numbers h = map-take depth _ ∙ ap (take depth) (onward-objects frames top) ∙ sym (map-take depth frames) ∙ h
+
+-- it is closed
+pub close-listed : (depth top : ℕ) (frames : List Frame) (numbers : List ℕ) → top ≤ depth → Listed depth frames numbers → Listed top (set frames top noFrame) numbers
+close-listed depth top frames numbers le h =
+    ap (map objectOf) (take-set-le top frames top noFrame (omega arith) ∙ sym (take-take top depth frames le)) ∙
+    map-take top (take depth frames) ∙
+    ap (take top) h ∙
+    take-take top depth numbers le
+
+-- another one opens
+pub enter-listed : (depth top object k : ℕ) (frames : List Frame) (numbers : List ℕ) → depth < length frames → depth < length numbers → Listed depth frames numbers → Listed (depth + 1) (set (set frames top (nextIn (getD frames top noFrame))) depth (newFrame object k)) (set numbers depth object)
+enter-listed depth top object k frames numbers f g h =
+    let l : List Frame = set frames top (nextIn (getD frames top noFrame)) in
+    rw (add-one, take-suc-set numbers depth object g, take-suc-set l depth (newFrame object k) (rw length-set f), map-last (take depth l), onward-listed depth top frames numbers h)
+
+-- what is left of a list decides with what was found before
+module _ (s : List ℕ) (n : ℕ) where
+  abbrev pub Decides : Bool → ℕ → Type 0
+  Decides found i = cond found true (among (drop i s) n) ≡ among s n
+
+  left-at : (i : ℕ) → i < length s → among (drop i s) n ≡ cond (eqb n (getD s i 0)) true (among (drop (i + 1) s) n)
+  unfolding among
+  left-at i h = rw (add-one i, drop-cons s i 0 h)
+
+  pub found-here : (found : Bool) (i : ℕ) → i < length s → getD s i 0 ≡ n → Decides found i → Decides true (i + 1)
+  found-here true i h e d = d
+  found-here false i h e d = rw (left-at i h, eq-eqb n (getD s i 0) (sym e)) at d
+
+  pub not-here : (found : Bool) (i : ℕ) → i < length s → (getD s i 0 ≡ n → ⊥) → Decides found i → Decides found (i + 1)
+  not-here true i h e d = d
+  not-here false i h e d = rw (left-at i h, ne-eqb n (getD s i 0) (λ z. e (sym z))) at d
+
+  pub none-left : (found : Bool) (i : ℕ) → length s ≤ i → Decides found i → found ≡ among s n
+  unfolding among
+  none-left true i h d = d
+  none-left false i h d = rw (drop-of-length-le s {i = i} h) at d
