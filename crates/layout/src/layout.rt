@@ -50,7 +50,7 @@ impl Standing {
     };
 }
 
-// The number of a width that stands at an offset. Eight bytes are read at once, whatever the width, and the rest is dropped: some 10
+// The number of a width that stands at an offset. Eight bytes are read at once, whatever the width, and the rest is dropped: some 8
 // instructions a number less than byte by byte.
 pub fn number_at(file: &[u8], width: Width, at: usize) -> Entry
     ensures { λ r. ⌜ r ≡ numberAt (now (file .entry)) width at ⌝ }

@@ -10,7 +10,7 @@ use native.Mathlib.Omega.{arith}
 use borrow.Author.Tests.{ltb-true, ltb-false}
 use lib.Dec.{ltb}
 use lib.Ieee.{binary32, binary64, nanBits}
-use lib.ListN.{length, getD}
+use lib.ListN.{getD}
 use Rattle.number.specs.Among.{among}
 use Rattle.number.specs.Be.{be}
 use Rattle.number.specs.Either.{either}

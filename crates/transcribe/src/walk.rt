@@ -141,7 +141,7 @@ pub(crate) fn walk(
     }
 }
 
-// Whether a number is among others. None ends the loop early, so that the compiler compares many at once: at 64 levels that takes some 40
+// Whether a number is among others. None ends the loop early, so that the compiler compares many at once: at 64 levels that takes some 60
 // instructions less than to stop at the first one.
 fn is_among(numbers: &[u32], number: u32) -> bool
     ensures { λ r. ⌜ r ≡ among (now (numbers .entry)) number ⌝ }

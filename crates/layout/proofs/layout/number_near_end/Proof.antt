@@ -1,5 +1,5 @@
 -- `number_near_end` reads a number of 1 to 8 bytes where it lies within the file.
-use mathlib.Core.Path.{ap, _≡_}
+use mathlib.Core.Path.{ap}
 use Prim.Native.Nat.{_+_, _<_, _≤_}
 use Rattle.layout.specs.declared.layout.Entry.the-variants.{Of}
 use native.Mathlib.Omega.{arith}

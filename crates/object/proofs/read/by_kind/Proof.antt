@@ -1,6 +1,6 @@
 -- `by_kind`: what each kind says.
-use mathlib.Core.Path.{_≡_, ap, sym}
-use Prim.Native.Nat.{_+_, _^_, _≤_, _<_}
+use mathlib.Core.Path.{ap}
+use Prim.Native.Nat.{_+_, _^_, _<_}
 use native.Mathlib.Omega.{arith}
 use mir.Facts.{toZ-ofZ}
 use mir.Syntax.{w64}

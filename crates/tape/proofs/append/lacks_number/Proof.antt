@@ -1,5 +1,5 @@
 -- `lacks_number` counts the groups only where the longest number might pass the end.
-use mathlib.Core.Path.{_≡_, sym, ap, _∙_}
+use mathlib.Core.Path.{sym, ap, _∙_}
 use Prim.Native.Nat.{_+_, _≤_, ℕ}
 use native.Mathlib.Omega.{arith}
 use borrow.Author.Needs.{needs}
