@@ -107,7 +107,7 @@ def object_at(file, refs, offset):
     if marker == 0x23:
         return "scalar", f"real {whole(file, offset, offset + 1, 8):016x}"
     if marker == 0x33:
-        return "scalar", dates.line_of(whole(file, offset, offset + 1, 8))
+        return "scalar", f"date {whole(file, offset, offset + 1, 8):016x}"
     if high in (4, 5, 6):
         length, start = head(file, offset)
         size = length * 2 if high == 6 else length
@@ -218,6 +218,12 @@ def go_on(file, state):
     return fetch(file, state, reference)
 
 
+def listed(line):
+    """A scalar as the listing says it: a date by its day and time, if it has one. Elsewhere here a date is its bits."""
+    word, _, bits = line.partition(" ")
+    return dates.line_of(int(bits, 16)) if word == "date" else line
+
+
 def step(file, state):
     """One call: the answer's line and the state after it."""
     fresh, held = state[0], state[7]
@@ -232,7 +238,7 @@ def step(file, state):
             offsets, refs, count, table, root = trailer(file)
             laid = (0, len(file), offsets, refs, count, table, table, 0, (NO_FRAME,) * MAX_OPEN)
             (offset, line), after = fetch(file, laid, root)
-        return f"at {offset} {line}", after
+        return f"at {offset} {listed(line)}", after
     except Refused as refusal:
         return f"refused {refusal.number} at {refusal.place}", state if refusal.keeps else ENDED
     except Wrong:
