@@ -330,7 +330,7 @@ impl Judge {
                     return Ok(());
                 }
                 Answer::Event(event) => return Err(format!("{item:?}, the crate's {event:?}")),
-                Answer::Refused(number, place) => {
+                Answer::Refused(number, _, place) => {
                     return Err(format!("the crate: refused {number} at {place:?}"));
                 }
                 Answer::Unforeseen(what) => return Err(format!("the crate: {what}")),
