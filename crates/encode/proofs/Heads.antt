@@ -15,13 +15,13 @@ use Rattle.encode.specs.Put.{baseOf, headed}
 use Rattle.encode.specs.Size.{headSize}
 use Rattle.encode.specs.SizeLaws.{length-head}
 use Rattle.encode.specs.declared.put.Base.{Base}
-use Rattle.encode.specs.declared.put.Base.the-variants.{Data, Ascii, Wide, Array, Dictionary}
+use Rattle.encode.specs.declared.put.Base.the-variants.{Data, Ascii, Utf16, Array, Dictionary}
 
 pub base-le : (b : Base) → baseOf b ≤ 0xD0
 unfolding baseOf
 base-le Data = omega arith
 base-le Ascii = omega arith
-base-le Wide = omega arith
+base-le Utf16 = omega arith
 base-le Array = omega arith
 base-le Dictionary = omega arith
 

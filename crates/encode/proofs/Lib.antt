@@ -1,4 +1,4 @@
 pub mod Heads
 pub mod Putting
 pub mod Runs
-pub mod Wide
+pub mod Changed

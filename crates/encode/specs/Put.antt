@@ -15,7 +15,7 @@ use Rattle.tape.specs.declared.value.Value.the-variants.{Of, NoValue}
 use Rattle.unicode.specs.Unicode.{isUtf8, toUtf16}
 use Rattle.written.specs.Encoding.{integerBytes, headBytes}
 use Rattle.encode.specs.declared.put.Base.{Base}
-use Rattle.encode.specs.declared.put.Base.the-variants.{Data, Ascii, Wide, Array, Dictionary}
+use Rattle.encode.specs.declared.put.Base.the-variants.{Data, Ascii, Utf16, Array, Dictionary}
 
 -- the memory afterwards: the bytes at its start where it has room for all of them, or unchanged
 unfoldable pub putInto : List ℕ → List ℕ → List ℕ
@@ -29,7 +29,7 @@ putLength l s = cond (leb (length s) (length l)) (length s) 0
 unfoldable pub baseOf : Base → ℕ
 baseOf Data = 0x40
 baseOf Ascii = 0x50
-baseOf Wide = 0x60
+baseOf Utf16 = 0x60
 baseOf Array = 0xA0
 baseOf Dictionary = 0xD0
 
@@ -63,12 +63,12 @@ unfoldable pub headed : ℕ → List ℕ → List ℕ
 headed base s = headBytes base (length s) ++ s
 
 -- a text in UTF-16 behind a head of so many units; nothing where it is no text
-unfoldable pub wide : ℕ → List ℕ → List ℕ
-wide units s = cond (isUtf8 s) (headBytes 0x60 units ++ toUtf16 s) []
+unfoldable pub inUtf16 : ℕ → List ℕ → List ℕ
+inUtf16 units s = cond (isUtf8 s) (headBytes 0x60 units ++ toUtf16 s) []
 
 -- a text: 0 units say that it is ASCII
 unfoldable pub textIn : List ℕ → ℕ → Value → List ℕ
-textIn tape units v = cond (eqb units 0) (runIn tape (headed 0x50) v) (runIn tape (wide units) v)
+textIn tape units v = cond (eqb units 0) (runIn tape (headed 0x50) v) (runIn tape (inUtf16 units) v)
 
 -- what stands behind a kind, from a place on
 unfoldable pub ofKind : List ℕ → ℕ → ℕ → ℕ → List ℕ

@@ -26,7 +26,7 @@ use Rattle.unicode.specs.Unicode.{isAscii, isUtf8, utf8, utf16Of, utf16, scalar
 use Rattle.unicode.specs.Utf8Bits.{utf8-again}
 use Rattle.written.specs.Encoding.{scalarBytes, integerBytes, textBytes}
 use Rattle.written.specs.Scalar.{unitsFor, IsScalar}
-use Rattle.encode.specs.Put.{numbered, positive, negative, uidBytes, eightIn, runIn, headed, wide, textIn, ofKind, bytesAt}
+use Rattle.encode.specs.Put.{numbered, positive, negative, uidBytes, eightIn, runIn, headed, inUtf16, textIn, ofKind, bytesAt}
 
 -- the kind that stands at a place decides
 module _ (tape : List ℕ) (at units : ℕ) where
@@ -95,7 +95,7 @@ some-units s g e = go (scalars8 s) refl
 
 module _ (tape : List ℕ) (q : List ℕ) where
   text-there : (at : ℕ) (s : List ℕ) → isUtf8 s ≡ true → length s < 2 ^ 64 → drop at tape ≡ seven (length s) ++ s ++ q → textIn tape (unitsFor (text s)) (numberAt tape at) ≡ textBytes s
-  unfolding textIn unitsFor textBytes headed wide
+  unfolding textIn unitsFor textBytes headed inUtf16
   text-there at s g h e = go (isAscii s) refl
     where
       go : (b : Bool) → isAscii s ≡ b → textIn tape (unitsFor (text s)) (numberAt tape at) ≡ textBytes s
@@ -103,7 +103,7 @@ module _ (tape : List ℕ) (q : List ℕ) where
       go false f =
           let n = length (utf16 (scalars8 s)) in
           let z : n ≡ 0 → ⊥ = λ (k : n ≡ 0). omega (arith, some-units s g f) in
-          rw (f, ne-eqb n 0 z) (run-there tape at (wide n) s q h e ∙ rw g)
+          rw (f, ne-eqb n 0 z) (run-there tape at (inUtf16 n) s q h e ∙ rw g)
 
   there : (at : ℕ) (m : Meaning) → IsScalar m → OnTape m → drop at tape ≡ bytesFor m ++ q → bytesAt tape at (unitsFor m) ≡ scalarBytes m
   unfolding bytesFor allowed unitsFor scalarBytes integerBytes ofKind positive negative uidBytes headed bitsOf

@@ -17,13 +17,13 @@ ghost use lib.Seq.{sets};
 ghost use Rattle.number.specs.Be.{bytesOf};
 ghost use Rattle.written.specs.Encoding.{sizeMarker, headBytes};
 ghost use Rattle.encode.specs.Size.{headSize};
-ghost use Rattle.encode.specs.Put.{putInto, putLength, baseOf, numbered, positive, negative, uidBytes, eightIn, runIn, headed, wide, textIn, bytesAt};
+ghost use Rattle.encode.specs.Put.{putInto, putLength, baseOf, numbered, positive, negative, uidBytes, eightIn, runIn, headed, inUtf16, textIn, bytesAt};
 
 // The markers that a length stands in.
 pub enum Base {
     Data,
     Ascii,
-    Wide,
+    Utf16,
     Array,
     Dictionary,
 }
@@ -210,8 +210,8 @@ fn put_headed(out: &mut [u8], base: Base, bytes: &[u8]) -> usize
 
 // The text goes first: it may be refused, and the head not.
 fn put_utf16(out: &mut [u8], units: usize, text: &[u8]) -> usize
-    ensures { λ r. ⌜ r ≡ putLength (now (out .entry)) (wide units (now (text .entry))) ⌝ }
-    ensures { λ _. ⌜ now (out .exit) ≡ putInto (now (out .entry)) (wide units (now (text .entry))) ⌝ }
+    ensures { λ r. ⌜ r ≡ putLength (now (out .entry)) (inUtf16 units (now (text .entry))) ⌝ }
+    ensures { λ _. ⌜ now (out .exit) ≡ putInto (now (out .entry)) (inUtf16 units (now (text .entry))) ⌝ }
 {
     let head = head_size(units);
     if out.len() < head {
@@ -219,7 +219,7 @@ fn put_utf16(out: &mut [u8], units: usize, text: &[u8]) -> usize
     }
     match utf8_to_utf16(text, &mut out[head..]) {
         Changed::Written(length) => {
-            write_head(out, Base::Wide, units);
+            write_head(out, Base::Utf16, units);
             head + length
         }
         Changed::NotText => 0,
@@ -234,7 +234,7 @@ fn marker_of(base: Base) -> u8
     match base {
         Base::Data => 0x40,
         Base::Ascii => 0x50,
-        Base::Wide => 0x60,
+        Base::Utf16 => 0x60,
         Base::Array => 0xa0,
         Base::Dictionary => 0xd0,
     }

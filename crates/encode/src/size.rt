@@ -46,7 +46,7 @@ pub fn size_of(tape: &[u8], at: usize) -> Size
     }
 }
 
-// All but wide text has no units.
+// All but text in UTF-16 has no units.
 fn bytes_alone(bytes: usize) -> Size
     ensures { λ r. ⌜ r ≡ bytesAlone bytes ⌝ }
 {

@@ -4,7 +4,7 @@ use native.Mathlib.Omega.{arith}
 use borrow.Author.Tests.{eq-eqb, ne-eqb}
 use lib.ListN.{length}
 use Rattle.tape.proofs.Tests.{lacks, has}
-use Rattle.encode.specs.Put.{baseOf, runIn, wide, textIn}
+use Rattle.encode.specs.Put.{baseOf, runIn, inUtf16, textIn}
 use Rattle.encode.proofs.Putting.{nothing, renamed}
 use Rattle.encode.proofs.Runs.{run-past, run-part}
 use borrow.Author.Needs.{needs}
@@ -43,7 +43,7 @@ unfolding textIn
 returns-3 c =
     let a = c .before .before .before .before .before .before .before .before .args in
     let v = c .before .before .before .number .given in
-    rw (ne-eqb (a .units) 0 (c .before .before .before .before .before .if1 .left), v .1) (renamed _ (run-past (a .tape .now) (v .0 .1 .0) (wide (a .units)) (v .0 .0) (lacks _ _ _ (c .before .lacks-room .ensures) (c .if2 .taken))) (nothing _))
+    rw (ne-eqb (a .units) 0 (c .before .before .before .before .before .if1 .left), v .1) (renamed _ (run-past (a .tape .now) (v .0 .1 .0) (inUtf16 (a .units)) (v .0 .0) (lacks _ _ _ (c .before .lacks-room .ensures) (c .if2 .taken))) (nothing _))
 
 -- the bytes lie within the tape
 room : (c : tie.Else2) → let v = c .before .before .before .number .given in v .0 .1 .0 + v .0 .0 ≤ length (c .before .before .before .before .before .before .before .before .args .tape .now)
@@ -72,7 +72,7 @@ unfolding textIn
 returns-4 c =
     let a = c .before .before .before .before .before .before .before .before .before .before .before .before .before .args in
     let v = c .before .before .before .before .before .before .before .before .number .given in
-    rw (ne-eqb (a .units) 0 (c .before .before .before .before .before .before .before .before .before .before .if1 .left), v .1) (renamed _ (run-part (a .tape .now) (v .0 .1 .0) (wide (a .units)) (v .0 .0) (room (c .before .before .before .before .before))) (c .before .before .put-utf16 .ensures))
+    rw (ne-eqb (a .units) 0 (c .before .before .before .before .before .before .before .before .before .before .if1 .left), v .1) (renamed _ (run-part (a .tape .now) (v .0 .1 .0) (inUtf16 (a .units)) (v .0 .0) (room (c .before .before .before .before .before))) (c .before .before .put-utf16 .ensures))
 
 pub put-text-spec : {M : Type 1} → statement M
 put-text-spec =

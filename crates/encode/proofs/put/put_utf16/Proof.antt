@@ -3,7 +3,7 @@ use native.Mathlib.Omega.{arith}
 use borrow.Author.Needs.{needs}
 use lib.ListN.{length}
 use Rattle.encode.specs.Put.{baseOf}
-use Rattle.encode.proofs.Wide.{Changing, wide-short, wide-no-text, wide-no-room, wide-fits, wide-written}
+use Rattle.encode.proofs.Changed.{Changing, utf16-short, utf16-no-text, utf16-no-room, utf16-fits, utf16-written}
 use Rattle.encode.proofs.put.put_utf16.Statement.{statement}
 use Rattle.encode.proofs.put.put_utf16.Tie as tie
 
@@ -13,7 +13,7 @@ head-size-requires c κs = search needs
 returns : tie.Need-returns
 returns c =
     let a = c .before .before .before .before .args in
-    wide-short (a .units) (a .text .now) (a .out .now) (omega (arith, c .before .head-size .ensures))
+    utf16-short (a .units) (a .text .now) (a .out .now) (omega (arith, c .before .head-size .ensures))
 
 sub-utf8-to-utf16 : tie.Need-sub-utf8-to-utf16
 sub-utf8-to-utf16 c = search needs
@@ -43,7 +43,7 @@ write-head-requires : tie.Need-write-head-requires
 write-head-requires c κs = search needs
 
 add-result : tie.Need-add-result
-add-result c = omega (arith, wide-fits (rw (c .before .before .before .before .before .length .given .1) at (changing (c .before .before .before .before .before .before .before))))
+add-result c = omega (arith, utf16-fits (rw (c .before .before .before .before .before .length .given .1) at (changing (c .before .before .before .before .before .before .before))))
 
 enum-told : tie.Need-enum-told
 enum-told c = search needs
@@ -56,19 +56,19 @@ same-length c = search needs
 
 returns-2 : tie.Need-returns-2
 unfolding baseOf
-returns-2 c = wide-written (rw (c .before .before .before .before .before .length .given .1) at (changing (c .before .before .before .before .before .before .before))) (c .before .before .write-head .ensures .1)
+returns-2 c = utf16-written (rw (c .before .before .before .before .before .length .given .1) at (changing (c .before .before .before .before .before .before .before))) (c .before .before .write-head .ensures .1)
 
 same-length-2 : tie.Need-same-length-2
 same-length-2 c = search needs
 
 returns-3 : tie.Need-returns-3
-returns-3 c = wide-no-text (rw (c .enum-told .given .1) at (changing (c .before .before)))
+returns-3 c = utf16-no-text (rw (c .enum-told .given .1) at (changing (c .before .before)))
 
 same-length-3 : tie.Need-same-length-3
 same-length-3 c = search needs
 
 returns-4 : tie.Need-returns-4
-returns-4 c = wide-no-room (rw (c .enum-told2 .given .1) at (changing (c .before .before)))
+returns-4 c = utf16-no-room (rw (c .enum-told2 .given .1) at (changing (c .before .before)))
 
 pub put-utf16-spec : {M : Type 1} → statement M
 put-utf16-spec =

@@ -15,7 +15,7 @@ use Rattle.unicode.specs.Unicode.{isUtf8, toUtf16}
 use Rattle.unicode.specs.declared.changed.Changed.the-variants.{Written, NotText, NoRoom}
 use Rattle.unicode.specs.declared.changed.Changed.{Changed}
 use Rattle.written.specs.Encoding.{headBytes}
-use Rattle.encode.specs.Put.{wide}
+use Rattle.encode.specs.Put.{inUtf16}
 use Rattle.encode.specs.Size.{headSize}
 use Rattle.encode.specs.PutLaws.{put-room, put-at}
 use Rattle.encode.specs.SizeLaws.{length-head}
@@ -45,24 +45,24 @@ told ok text out = go ok (ltb (length out) (length text)) refl refl
 
 module _ (units : ℕ) (s : List ℕ) where
   -- the bytes that are to be put
-  wide-text : isUtf8 s ≡ true → headBytes 0x60 units ++ toUtf16 s ≡ wide units s
-  unfolding wide
-  wide-text e = rw e
+  utf16-text : isUtf8 s ≡ true → headBytes 0x60 units ++ toUtf16 s ≡ inUtf16 units s
+  unfolding inUtf16
+  utf16-text e = rw e
 
-  wide-none : isUtf8 s ≡ false → [] ≡ wide units s
-  unfolding wide
-  wide-none e = rw e
+  utf16-none : isUtf8 s ≡ false → [] ≡ inUtf16 units s
+  unfolding inUtf16
+  utf16-none e = rw e
 
-  wide-length : length (headBytes 0x60 units ++ toUtf16 s) ≡ headSize units + length (toUtf16 s)
-  wide-length = length-append (headBytes 0x60 units) (toUtf16 s) ∙ rw (length-head 0x60 units)
+  utf16-length : length (headBytes 0x60 units ++ toUtf16 s) ≡ headSize units + length (toUtf16 s)
+  utf16-length = length-append (headBytes 0x60 units) (toUtf16 s) ∙ rw (length-head 0x60 units)
 
   -- no room for the head
-  pub wide-short : (l : List ℕ) → length l < headSize units → Puts l (wide units s) 0 l
-  wide-short l h = go (isUtf8 s) refl
+  pub utf16-short : (l : List ℕ) → length l < headSize units → Puts l (inUtf16 units s) 0 l
+  utf16-short l h = go (isUtf8 s) refl
     where
-      go : (b : Bool) → isUtf8 s ≡ b → Puts l (wide units s) 0 l
-      go false e = renamed l (wide-none e) (nothing l)
-      go true e = renamed l (wide-text e) (refused l _ (omega (arith, wide-length)))
+      go : (b : Bool) → isUtf8 s ≡ b → Puts l (inUtf16 units s) 0 l
+      go false e = renamed l (utf16-none e) (nothing l)
+      go true e = renamed l (utf16-text e) (refused l _ (omega (arith, utf16-length)))
 
 -- the text was changed into the part behind the head: the answer r, and the part m after it
 pub record Changing (l : List ℕ) (units : ℕ) (s : List ℕ) (head : ℕ) (r : Changed) (m : List ℕ) : Type 0 where
@@ -86,29 +86,29 @@ module _ {l : List ℕ} {units : ℕ} {s : List ℕ} {head : ℕ} {r : Changed} 
   same e = ap (putMid head (length l - head) l) (g .memory ∙ e) ∙ put-same head (length l - head) l
 
 module _ {l : List ℕ} {units : ℕ} {s : List ℕ} {head : ℕ} {m : List ℕ} where
-  pub wide-no-text : Changing l units s head NotText m → Puts l (wide units s) 0 (putMid head (length l - head) l m)
-  wide-no-text g =
+  pub utf16-no-text : Changing l units s head NotText m → Puts l (inUtf16 units s) 0 (putMid head (length l - head) l m)
+  utf16-no-text g =
       let t = tells g in
-      rw (same g (t .1)) (renamed l (wide-none units s (t .0)) (nothing l))
+      rw (same g (t .1)) (renamed l (utf16-none units s (t .0)) (nothing l))
 
-  pub wide-no-room : Changing l units s head NoRoom m → Puts l (wide units s) 0 (putMid head (length l - head) l m)
-  wide-no-room g =
+  pub utf16-no-room : Changing l units s head NoRoom m → Puts l (inUtf16 units s) 0 (putMid head (length l - head) l m)
+  utf16-no-room g =
       let t = tells g in
-      rw (same g (t .2)) (renamed l (wide-text units s (t .0)) (refused l _ (omega (arith, wide-length units s, part-length g, t .1, g .is))))
+      rw (same g (t .2)) (renamed l (utf16-text units s (t .0)) (refused l _ (omega (arith, utf16-length units s, part-length g, t .1, g .is))))
 
   module _ {n : ℕ} (g : Changing l units s head (Written n) m) where
-    pub wide-fits : head + n ≤ length l
-    wide-fits =
+    pub utf16-fits : head + n ≤ length l
+    utf16-fits =
         let t = tells g in
         omega (arith, part-length g, t .1, t .2, g .within)
 
-    pub wide-written : {x : List ℕ} → x ≡ sets (putMid head (length l - head) l m) 0 (headBytes 0x60 units) → Puts l (wide units s) (head + n) x
-    wide-written f =
+    pub utf16-written : {x : List ℕ} → x ≡ sets (putMid head (length l - head) l m) 0 (headBytes 0x60 units) → Puts l (inUtf16 units s) (head + n) x
+    utf16-written f =
         let t = tells g in
         let u = toUtf16 s in
         let hb = headBytes 0x60 units in
-        let room : head + length u ≤ length l = omega (arith, wide-fits, t .2) in
+        let room : head + length u ≤ length l = omega (arith, utf16-fits, t .2) in
         let q : putMid head (length l - head) l m ≡ sets l head u = ap (putMid head (length l - head) l) (g .memory ∙ t .3 ∙ sym (put-room (part g) u (t .1) .0)) ∙ put-at l head (length l) u room (omega arith) in
         let k : length hb ≡ head = length-head 0x60 units ∙ sym (g .is) in
         let p : sets (sets l head u) 0 hb ≡ sets l 0 (hb ++ u) = rw k at (sets-front l hb u (omega arith)) in
-        renamed l (wide-text units s (t .0)) (written l _ (omega (arith, wide-length units s, g .is)) (omega (arith, wide-length units s, t .2, g .is)) (f ∙ rw q p))
+        renamed l (utf16-text units s (t .0)) (written l _ (omega (arith, utf16-length units s, g .is)) (omega (arith, utf16-length units s, t .2, g .is)) (f ∙ rw q p))
