@@ -1,6 +1,7 @@
 //! Tapes written, read again by the proved reader and by the crate's, and written again by both writers. See compare/README.md.
 
 #[allow(dead_code)]
+mod added;
 mod files;
 mod filled;
 mod hex;
@@ -16,7 +17,6 @@ mod theirs;
 mod write_families;
 
 use std::{
-    cell::Cell,
     env,
     io::{self, BufWriter, Write},
     panic::{self, AssertUnwindSafe},
@@ -33,7 +33,7 @@ use write_families::{every_kind, every_number, Stock, FAMILIES};
 const USAGE: &str = "usage: back RECORDED REAL [--seed N] [--count N] [--print N]";
 
 /// Words for each event: document 01, 24.
-const COLUMNS: usize = 6;
+const COLUMNS: usize = 8;
 /// A tape from which families draw.
 const SAMPLE_MOST: usize = 1000;
 /// A printed file has at most this many bytes.
@@ -317,7 +317,7 @@ impl Judge {
 
     /// The crate's reader hands out the same events, and its writer makes the same file of them.
     fn read_theirs(&mut self, file: &[u8], filled: &Filled) -> Result<(), String> {
-        let seeks = Cell::new(0);
+        let seeks = added::Seeks::default();
         let mut reader = Watched::new(file, &seeks);
         let mut again = Vec::new();
         let mut writer = BinaryWriter::new(&mut again);
@@ -332,6 +332,9 @@ impl Judge {
                 Answer::Event(event) => return Err(format!("{item:?}, the crate's {event:?}")),
                 Answer::Refused(number, _, place) => {
                     return Err(format!("the crate: refused {number} at {place:?}"));
+                }
+                Answer::Added(number, offset) => {
+                    return Err(format!("an object that is refused with {number} at {offset}"));
                 }
                 Answer::Unforeseen(what) => return Err(format!("the crate: {what}")),
                 Answer::Date => return Err(format!("{item:?}, the crate's a date")),
