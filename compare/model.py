@@ -31,6 +31,10 @@ class Refused(Exception):
         self.number, self.place, self.keeps = number, place, keeps
 
 
+class Added(Refused):
+    """A refusal by a rule that document 02 adds, where the crate goes on."""
+
+
 class Wrong(Exception):
     """The state or the record isn't one that this file gives: 17."""
 
@@ -65,7 +69,7 @@ def head(file, offset):
         return low, offset + 1
     size = file[offset + 1]
     if not 0x10 <= size <= 0x13:
-        raise Refused(31, offset)
+        raise Added(31, offset)
     width = 1 << (size & 3)
     return number_at(file, offset + 2, width), offset + 2 + width
 
@@ -73,7 +77,7 @@ def head(file, offset):
 def measure(file, offset, end):
     """An object's true end, head and content, must be at most T, else 6."""
     if end > len(file) - 32:
-        raise Refused(6, offset)
+        raise Added(6, offset)
 
 
 def whole(file, offset, at, width):
@@ -224,25 +228,44 @@ def listed(line):
     return dates.line_of(int(bits, 16)) if word == "date" else line
 
 
+def call(file, state):
+    """What one call gives where it isn't refused: (offset, line), and the state after it."""
+    if len(file) > MAX_LENGTH:
+        raise Refused(1, 0, keeps=True)
+    if not state[0]:
+        return go_on(file, state)
+    offsets, refs, count, table, root = trailer(file)
+    laid = (0, len(file), offsets, refs, count, table, table, 0, (NO_FRAME,) * MAX_OPEN)
+    return fetch(file, laid, root)
+
+
 def step(file, state):
     """One call: the answer's line and the state after it."""
     fresh, held = state[0], state[7]
     if not fresh and not held:
         return "end", state
     try:
-        if len(file) > MAX_LENGTH:
-            raise Refused(1, 0, keeps=True)
-        if not fresh:
-            (offset, line), after = go_on(file, state)
-        else:
-            offsets, refs, count, table, root = trailer(file)
-            laid = (0, len(file), offsets, refs, count, table, table, 0, (NO_FRAME,) * MAX_OPEN)
-            (offset, line), after = fetch(file, laid, root)
+        (offset, line), after = call(file, state)
         return f"at {offset} {listed(line)}", after
     except Refused as refusal:
         return f"refused {refusal.number} at {refusal.place}", state if refusal.keeps else ENDED
     except Wrong:
         return "refused 17 at 0", state
+
+
+def added(file, calls):
+    """The first of so many calls from a fresh reader that a rule of document 02 refuses: (its index, number, place), or None."""
+    state = FRESH
+    for at in range(calls):
+        if not state[0] and not state[7]:
+            return None
+        try:
+            _, state = call(file, state)
+        except Added as refusal:
+            return at, refusal.number, refusal.place
+        except Refused:
+            return None
+    return None
 
 
 def said(kind, value):
