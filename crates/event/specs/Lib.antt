@@ -1,5 +1,6 @@
 pub mod Bare
 pub mod Date
+pub mod DateLaws
 pub mod Format
 pub mod Meaning
 pub mod Real

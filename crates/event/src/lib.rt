@@ -1,4 +1,5 @@
 // What a property list says, one event at a time.
+pub mod date;
 pub mod limits;
 pub mod real;
 pub mod same;

@@ -21,8 +21,8 @@ enum Chosen {
 }
 
 // Appends the event of a kind, which is a number of the tape's own: `value` is the number behind the kind, `bytes` are those of data or text.
-// Answers how many bytes are held then; 2^64 - 1 where text isn't UTF-8, 2^64 - 2 where the event doesn't fit, 2^64 - 3 where the kind
-// is none, or a negative integer is too low. Where nothing is appended the tape is as it was.
+// Answers how many bytes are held then; 2^64 - 1 where text isn't UTF-8 or a date isn't finite, 2^64 - 2 where the event doesn't fit,
+// 2^64 - 3 where the kind is none, or a negative integer is too low. Where nothing is appended the tape is as it was.
 #[no_mangle]
 pub extern "C" fn zm_tape_append(
     tape: &mut [u8],
@@ -78,7 +78,7 @@ fn held_number(appended: Appended) -> u64
 {
     match appended {
         Appended::Held(n) => n as u64,
-        Appended::BadText(_) => 0xffff_ffff_ffff_ffff,
+        Appended::BadEvent(_) => 0xffff_ffff_ffff_ffff,
         Appended::NoRoom(_) => 0xffff_ffff_ffff_fffe,
     }
 }

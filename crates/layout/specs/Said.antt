@@ -14,7 +14,7 @@ use Rattle.layout.specs.declared.lookup.Look.the-variants.{Refused, Scal
 use Rattle.layout.specs.declared.lookup.Shape.{Shape as ShapeRead}
 use Rattle.layout.specs.declared.lookup.Shape.the-variants.{Array, Dictionary}
 use Rattle.layout.specs.declared.refusal.Refusal.{Refusal}
-use Rattle.layout.specs.declared.refusal.Refusal.the-variants.{TooLong, EndOfInput, InvalidMagic, InvalidTrailerObjectOffsetSize, InvalidTrailerObjectReferenceSize, ObjectOffsetTooLarge, ObjectReferenceTooLarge, NullObjectUnimplemented, FillObjectUnimplemented, UnknownObjectType, IntegerOutOfRange, InvalidUtf8String, InvalidUtf16String, RecursiveObject, TooDeep, NoRoomForText, WrongFile, InvalidObjectLength}
+use Rattle.layout.specs.declared.refusal.Refusal.the-variants.{TooLong, EndOfInput, InvalidMagic, InvalidTrailerObjectOffsetSize, InvalidTrailerObjectReferenceSize, ObjectOffsetTooLarge, ObjectReferenceTooLarge, NullObjectUnimplemented, FillObjectUnimplemented, UnknownObjectType, IntegerOutOfRange, InvalidUtf8String, InvalidUtf16String, RecursiveObject, TooDeep, NoRoomForText, WrongFile, InvalidObjectLength, OverflowOrNanDate}
 use Rattle.layout.specs.declared.trailer.TrailerRead.{TrailerRead}
 use Rattle.layout.specs.declared.trailer.TrailerRead.the-variants.{Keeps, Ends, Lays}
 
@@ -38,6 +38,7 @@ numberOf TooDeep = 15
 numberOf NoRoomForText = 16
 numberOf WrongFile = 17
 numberOf InvalidObjectLength = 31
+numberOf OverflowOrNanDate = 34
 
 -- 10 comes with the marker
 unfoldable pub valuesOf : Refusal → List ℕ
@@ -59,6 +60,7 @@ valuesOf TooDeep = []
 valuesOf NoRoomForText = []
 valuesOf WrongFile = []
 valuesOf InvalidObjectLength = []
+valuesOf OverflowOrNanDate = []
 
 unfoldable pub shapeSaid : ShapeRead → Shape
 shapeSaid Array = array

@@ -16,7 +16,7 @@ use Rattle.layout.specs.declared.lookup.Look.the-variants.{Refused, Scal
 use Rattle.layout.specs.declared.lookup.Shape.{Shape as ShapeRead}
 use Rattle.layout.specs.declared.lookup.Shape.the-variants.{Array, Dictionary}
 use Rattle.layout.specs.declared.refusal.Refusal.{Refusal}
-use Rattle.layout.specs.declared.refusal.Refusal.the-variants.{TooLong, EndOfInput, InvalidMagic, InvalidTrailerObjectOffsetSize, InvalidTrailerObjectReferenceSize, ObjectOffsetTooLarge, ObjectReferenceTooLarge, NullObjectUnimplemented, FillObjectUnimplemented, UnknownObjectType, IntegerOutOfRange, InvalidUtf8String, InvalidUtf16String, RecursiveObject, TooDeep, NoRoomForText, WrongFile, InvalidObjectLength}
+use Rattle.layout.specs.declared.refusal.Refusal.the-variants.{TooLong, EndOfInput, InvalidMagic, InvalidTrailerObjectOffsetSize, InvalidTrailerObjectReferenceSize, ObjectOffsetTooLarge, ObjectReferenceTooLarge, NullObjectUnimplemented, FillObjectUnimplemented, UnknownObjectType, IntegerOutOfRange, InvalidUtf8String, InvalidUtf16String, RecursiveObject, TooDeep, NoRoomForText, WrongFile, InvalidObjectLength, OverflowOrNanDate}
 use Rattle.layout.specs.declared.trailer.TrailerRead.{TrailerRead}
 use Rattle.layout.specs.declared.trailer.TrailerRead.the-variants.{Keeps, Ends, Lays}
 
@@ -27,7 +27,7 @@ named marker =
 
 -- the refusal of a number and values
 pub refusalFrom : ℕ → List ℕ → Refusal
-refusalFrom number values = cond (eqb number 31) InvalidObjectLength (getD (named (getD values 0 0)) number TooLong)
+refusalFrom number values = cond (eqb number 31) InvalidObjectLength (cond (eqb number 34) OverflowOrNanDate (getD (named (getD values 0 0)) number TooLong))
 
 pub again : (r : Refusal) → refusalFrom (numberOf r) (valuesOf r) ≡ r
 unfolding numberOf valuesOf refusalFrom named
@@ -49,6 +49,7 @@ again TooDeep = refl
 again NoRoomForText = refl
 again WrongFile = refl
 again InvalidObjectLength = refl
+again OverflowOrNanDate = refl
 
 -- where bytes stand, what is looked up, and a trailer, from what they say
 askedFrom : Asked → AskedRead

@@ -72,6 +72,7 @@ fn refusal_of(refusal: object::refusal::Refusal) -> Refusal
         object::refusal::Refusal::InvalidUtf8String => Refusal::InvalidUtf8String,
         object::refusal::Refusal::InvalidUtf16String => Refusal::InvalidUtf16String,
         object::refusal::Refusal::InvalidObjectLength => Refusal::InvalidObjectLength,
+        object::refusal::Refusal::OverflowOrNanDate => Refusal::OverflowOrNanDate,
     }
 }
 

@@ -22,6 +22,7 @@ pub enum Refusal {
     NoRoomForText,
     WrongFile,
     InvalidObjectLength,
+    OverflowOrNanDate,
 }
 
 // A refusal's number (docs/FORMAT.md, N).
@@ -47,5 +48,6 @@ pub fn number_of(refusal: Refusal) -> u32
         Refusal::NoRoomForText => 16,
         Refusal::WrongFile => 17,
         Refusal::InvalidObjectLength => 31,
+        Refusal::OverflowOrNanDate => 34,
     }
 }

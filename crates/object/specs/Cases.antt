@@ -1,6 +1,6 @@
 -- Document 01's worked cases that are about one object, computed. The trailer is all zeros: no rule of one object reads it.
 use mathlib.Core.Bool.{false}
-use mathlib.Core.List.{List, [], _∷_, _++_}
+use mathlib.Core.List.{List, [], _∷_, _++_, map}
 use mathlib.Core.Path.{_≡_, refl}
 use Prim.Native.Nat.{ℕ, _≤_}
 use native.Mathlib.Omega.{arith}
@@ -8,16 +8,18 @@ use borrow.Author.Tests.{le-leb}
 use lib.IntN.{negsuc}
 use lib.ListN.{replicate}
 use Rattle.unicode.specs.Unicode.{isUtf16, isEven, paired, unitsOf, isHigh, isLow}
-use Rattle.number.specs.Be.{be, onto}
+use Rattle.number.specs.Be.{be, onto, bytesOf}
 use Rattle.number.specs.Signed.{signedOf}
 use Rattle.number.specs.Width.{bytesIn}
 use Rattle.number.specs.declared.width.Width.the-variants.{One}
 use Rattle.number.specs.declared.width.Width.{Width}
-use Rattle.event.specs.declared.Event.the-variants.{Boolean, Integer}
+use Rattle.event.specs.Date.{isDate}
+use Rattle.event.specs.DateLaws.{largest, beyond}
+use Rattle.event.specs.declared.Event.the-variants.{Boolean, Date, Integer}
 use Rattle.event.specs.declared.Integer.the-variants.{Signed, Unsigned}
 use Rattle.object.specs.Content.{trailerAt, lengthWidth, extentAt, isLengthByte, hasLength, headAt, endsBefore, measured, contentAt}
 use Rattle.object.specs.Kind.{kindOf}
-use Rattle.object.specs.Object.{Found, refused, refusedBy, scalar, bytes, utf16, fixedAt, wideIn, dataIn, utf16In, dictionaryIn, byKind, objectAt}
+use Rattle.object.specs.Object.{Found, refused, refusedBy, scalar, bytes, utf16, fixedAt, wideIn, dateOf, dataIn, utf16In, dictionaryIn, byKind, objectAt}
 use Rattle.object.specs.ObjectLaws.{object-inside}
 use Rattle.object.specs.Refusal.{numberOf, valuesOf}
 
@@ -73,6 +75,14 @@ pub crossing :
     (objectAt (magic ++ 0x09 ∷ 0x4F ∷ 0x10 ∷ replicate 31 0) One 9 ≡ refused 6 [])
 unfolding objectAt byKind kindOf fixedAt endsBefore dataIn refusedBy numberOf valuesOf contentAt measured headAt hasLength isLengthByte extentAt lengthWidth be onto
 crossing = (refl, refl, refl, refl, refl)
+
+-- `33` and the bits at the limits: the neighbours of infinity are dates; infinities and NaNs give 34, where the object ends at or before T
+pub dates :
+    (map (λ (bits : ℕ). found (0x33 ∷ bytesOf 8 bits) 0) largest ≡ map (λ (bits : ℕ). scalar (Date bits)) largest) ×
+    (map (λ (bits : ℕ). found (0x33 ∷ bytesOf 8 bits) 0) beyond ≡ replicate 5 (refused 34 [])) ×
+    (found (0x33 ∷ 0x7F ∷ 0xF0 ∷ replicate 5 0) 0 ≡ refused 6 [])
+unfolding objectAt byKind kindOf be onto bytesOf fixedAt endsBefore dateOf isDate refusedBy numberOf valuesOf
+dates = (refl, refl, refl)
 
 -- object at 9, references of 1 byte, `DF 10 1D`, T = 38, and `DF 10 1E`, T = 39: the values run past T
 pub pairs : (found (magic ++ 0x00 ∷ 0xDF ∷ 0x10 ∷ 0x1D ∷ replicate 26 0) 9 ≡ refused 6 []) × (found (magic ++ 0x00 ∷ 0xDF ∷ 0x10 ∷ 0x1E ∷ replicate 27 0) 9 ≡ refused 6 [])

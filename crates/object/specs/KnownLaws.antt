@@ -27,7 +27,7 @@ use Rattle.object.specs.ContainerLaws.{container-inside}
 use Rattle.object.specs.Content.{trailerAt, endsBefore, contentAt}
 use Rattle.object.specs.ContentLaws.{fitting}
 use Rattle.object.specs.Kind.{kindOf}
-use Rattle.object.specs.Object.{Found, outside, refused, refusedBy, scalar, bytes, utf8, utf16, array, dictionary, fixedAt, unsignedIn, signedIn, wideIn, shortRealIn, realIn, dateIn, uidIn, dataIn, utf8In, utf16In, arrayIn, dictionaryIn, byKind, objectAt}
+use Rattle.object.specs.Object.{Found, outside, refused, refusedBy, scalar, bytes, utf8, utf16, array, dictionary, fixedAt, unsignedIn, signedIn, wideIn, shortRealIn, realIn, dateOf, dateIn, uidIn, dataIn, utf8In, utf16In, arrayIn, dictionaryIn, byKind, objectAt}
 use Rattle.object.specs.ObjectLaws.{object-inside}
 use Rattle.object.specs.Refusal.{objectRefusals}
 use Rattle.object.specs.RefusalLaws.{refusal-listed}
@@ -140,8 +140,8 @@ module _ (file : List ℕ) (refs : Width) (offset : ℕ) where
   real-known s = either Plain (nanBits binary64 (be s)) _ _ (λ e. tt) (λ e. tt)
 
   date-known : (s : List ℕ) → Fixed (dateIn s)
-  unfolding isDate
-  date-known s = refl
+  unfolding dateOf refusedBy
+  date-known s = either Fixed (isDate (be s)) _ _ (λ e. e) (λ e. refusal-listed _)
 
   module _ (below : offset < trailerAt file) (nibble : ℕ) where
     data-known : kindOf (getD file offset 0) ≡ kind.Data nibble → (x : Content) → contentAt file offset nibble 1 ≡ x → Known (dataIn x)

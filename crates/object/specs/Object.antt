@@ -10,6 +10,7 @@ use Rattle.number.specs.Part.{part}
 use Rattle.number.specs.Signed.{signedOf}
 use Rattle.number.specs.Width.{bytesIn}
 use Rattle.number.specs.declared.width.Width.{Width}
+use Rattle.event.specs.Date.{isDate}
 use Rattle.event.specs.Real.{realOf, shortRealOf}
 use Rattle.event.specs.declared.Event.{Event}
 use Rattle.event.specs.declared.Event.the-variants.{Boolean, Date, Integer, Uid}
@@ -22,7 +23,7 @@ use Rattle.object.specs.declared.content.Content.the-variants.{Fits, Ref
 use Rattle.object.specs.declared.kind.Kind.{Kind}
 use Rattle.object.specs.declared.kind.Kind.the-variants as kind
 use Rattle.object.specs.declared.refusal.Refusal.{Refusal}
-use Rattle.object.specs.declared.refusal.Refusal.the-variants.{ObjectOffsetTooLarge, NullObjectUnimplemented, FillObjectUnimplemented, UnknownObjectType, IntegerOutOfRange, InvalidUtf8String, InvalidUtf16String}
+use Rattle.object.specs.declared.refusal.Refusal.the-variants.{ObjectOffsetTooLarge, NullObjectUnimplemented, FillObjectUnimplemented, UnknownObjectType, IntegerOutOfRange, InvalidUtf8String, InvalidUtf16String, OverflowOrNanDate}
 
 -- what is found: nothing, since the offset is at or above T; a refusal with its number and values; a scalar; data or text, with where
 -- its bytes begin and how many they are; a container with its number of elements or pairs
@@ -60,8 +61,12 @@ shortRealIn s = scalar (shortRealOf (be s))
 abbrev pub realIn : List ℕ → Found
 realIn s = scalar (realOf (be s))
 
+-- a date is finite, else 34
+unfoldable pub dateOf : ℕ → Found
+dateOf bits = cond (isDate bits) (scalar (Date bits)) (refusedBy OverflowOrNanDate)
+
 abbrev pub dateIn : List ℕ → Found
-dateIn s = scalar (Date (be s))
+dateIn s = dateOf (be s)
 
 abbrev pub uidIn : List ℕ → Found
 uidIn s = scalar (Uid (be s))

@@ -2,11 +2,11 @@
 use mathlib.Core.List.{List, [], _∷_}
 use Prim.Native.Nat.{ℕ}
 use Rattle.object.specs.declared.refusal.Refusal.{Refusal}
-use Rattle.object.specs.declared.refusal.Refusal.the-variants.{ObjectOffsetTooLarge, NullObjectUnimplemented, FillObjectUnimplemented, UnknownObjectType, IntegerOutOfRange, InvalidUtf8String, InvalidUtf16String, InvalidObjectLength}
+use Rattle.object.specs.declared.refusal.Refusal.the-variants.{ObjectOffsetTooLarge, NullObjectUnimplemented, FillObjectUnimplemented, UnknownObjectType, IntegerOutOfRange, InvalidUtf8String, InvalidUtf16String, InvalidObjectLength, OverflowOrNanDate}
 
 -- every number with which an object is refused, and no other
 unfoldable pub objectRefusals : List ℕ
-objectRefusals = 6 ∷ 8 ∷ 9 ∷ 10 ∷ 11 ∷ 12 ∷ 13 ∷ 31 ∷ []
+objectRefusals = 6 ∷ 8 ∷ 9 ∷ 10 ∷ 11 ∷ 12 ∷ 13 ∷ 31 ∷ 34 ∷ []
 
 unfoldable pub numberOf : Refusal → ℕ
 numberOf ObjectOffsetTooLarge = 6
@@ -17,6 +17,7 @@ numberOf IntegerOutOfRange = 11
 numberOf InvalidUtf8String = 12
 numberOf InvalidUtf16String = 13
 numberOf InvalidObjectLength = 31
+numberOf OverflowOrNanDate = 34
 
 -- 10 comes with the marker (R9)
 unfoldable pub valuesOf : Refusal → List ℕ
@@ -28,3 +29,4 @@ valuesOf IntegerOutOfRange = []
 valuesOf InvalidUtf8String = []
 valuesOf InvalidUtf16String = []
 valuesOf InvalidObjectLength = []
+valuesOf OverflowOrNanDate = []

@@ -7,7 +7,7 @@ use lib.Dec.{eqb}
 use lib.ListN.{getD}
 use Rattle.number.specs.Among.{among}
 use Rattle.object.specs.Refusal.{objectRefusals, numberOf, valuesOf}
-use Rattle.object.specs.declared.refusal.Refusal.the-variants.{ObjectOffsetTooLarge, NullObjectUnimplemented, FillObjectUnimplemented, UnknownObjectType, IntegerOutOfRange, InvalidUtf8String, InvalidUtf16String, InvalidObjectLength}
+use Rattle.object.specs.declared.refusal.Refusal.the-variants.{ObjectOffsetTooLarge, NullObjectUnimplemented, FillObjectUnimplemented, UnknownObjectType, IntegerOutOfRange, InvalidUtf8String, InvalidUtf16String, InvalidObjectLength, OverflowOrNanDate}
 use Rattle.object.specs.declared.refusal.Refusal.{Refusal}
 
 pub refusal-listed : (r : Refusal) → among objectRefusals (numberOf r) ≡ true
@@ -20,6 +20,7 @@ refusal-listed IntegerOutOfRange = refl
 refusal-listed InvalidUtf8String = refl
 refusal-listed InvalidUtf16String = refl
 refusal-listed InvalidObjectLength = refl
+refusal-listed OverflowOrNanDate = refl
 
 -- the refusal of a number and values
 pub refusalFrom : ℕ → List ℕ → Refusal
@@ -31,7 +32,8 @@ refusalFrom n vs =
     (cond (eqb n 11) IntegerOutOfRange
     (cond (eqb n 12) InvalidUtf8String
     (cond (eqb n 13) InvalidUtf16String
-    InvalidObjectLength))))))
+    (cond (eqb n 31) InvalidObjectLength
+    OverflowOrNanDate)))))))
 
 pub refusal-again : (r : Refusal) → refusalFrom (numberOf r) (valuesOf r) ≡ r
 unfolding numberOf valuesOf refusalFrom
@@ -43,3 +45,4 @@ refusal-again IntegerOutOfRange = refl
 refusal-again InvalidUtf8String = refl
 refusal-again InvalidUtf16String = refl
 refusal-again InvalidObjectLength = refl
+refusal-again OverflowOrNanDate = refl

@@ -8,6 +8,7 @@ use crate::kind::kind_of;
 use crate::refusal::Refusal;
 use event::Event;
 use event::Integer;
+use event::date::is_date;
 use event::real::real_of;
 use event::real::short_real_of;
 use number::signed::signed_of;
@@ -25,7 +26,7 @@ ghost use Rattle.object.specs.Content.{contentAt};
 ghost use Rattle.object.specs.Found.{foundOf};
 ghost use Rattle.object.specs.Kind.{fixedWidth};
 ghost use Rattle.object.specs.KindLaws.{widthIn};
-ghost use Rattle.object.specs.Object.{scalar, byKind, objectAt, wideIn, dataIn, utf8In, utf16In, arrayIn, dictionaryIn};
+ghost use Rattle.object.specs.Object.{scalar, byKind, objectAt, dateOf, wideIn, dataIn, utf8In, utf16In, arrayIn, dictionaryIn};
 
 // Bytes of the file.
 pub struct Part {
@@ -77,7 +78,7 @@ fn by_kind(file: &[u8], refs: Width, offset: usize, kind: Kind) -> Object
         Kind::Wide => wide_at(file, offset),
         Kind::ShortReal => Object::Scalar(short_real_of(be_at(file, offset + 1, 4) as u32)),
         Kind::Real => Object::Scalar(real_of(be_at(file, offset + 1, 8))),
-        Kind::Date => Object::Scalar(Event::Date(be_at(file, offset + 1, 8))),
+        Kind::Date => date(be_at(file, offset + 1, 8)),
         Kind::Data(nibble) => data_at(file, offset, nibble),
         Kind::Utf8(nibble) => utf8_at(file, offset, nibble),
         Kind::Utf16(nibble) => utf16_at(file, offset, nibble),
@@ -92,6 +93,16 @@ fn integer(i: Integer) -> Object
     ensures { λ r. ⌜ foundOf r ≡ scalar (IntegerEvent i) ⌝ }
 {
     Object::Scalar(Event::Integer(i))
+}
+
+// A date is finite.
+fn date(bits: u64) -> Object
+    ensures { λ r. ⌜ foundOf r ≡ dateOf bits ⌝ }
+{
+    if is_date(bits) {
+        return Object::Scalar(Event::Date(bits));
+    }
+    Object::Refused(Refusal::OverflowOrNanDate)
 }
 
 // 16 bytes are accepted where the high half is zero.

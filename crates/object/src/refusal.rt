@@ -8,4 +8,5 @@ pub enum Refusal {
     InvalidUtf8String,
     InvalidUtf16String,
     InvalidObjectLength,
+    OverflowOrNanDate,
 }

@@ -9,13 +9,14 @@ use Rattle.number.specs.Be.{be, onto}
 use Rattle.number.specs.Signed.{signedOf}
 use Rattle.number.specs.Width.{widthOf, bytesIn}
 use Rattle.unicode.specs.Unicode.{isUtf16, isEven, paired, unitsOf, isHigh, isLow, toUtf8, utf8, utf8Of, scalars16}
+use Rattle.event.specs.Date.{isDate}
 use Rattle.event.specs.Format.{magic}
-use Rattle.event.specs.Meaning.{array, close, integer, bytes, text, meaningOf, valueOf, givenOf}
+use Rattle.event.specs.Meaning.{array, close, date, integer, bytes, text, meaningOf, valueOf, givenOf}
 use Rattle.object.specs.Refusal.{numberOf as objectNumber, valuesOf as objectValues}
 use Rattle.object.specs.Container.{containerAt, containerOf, arrayOf, dictionaryOf}
 use Rattle.object.specs.Content.{contentAt, extentAt, endsBefore, lengthWidth, measured, hasLength, isLengthByte, headAt}
 use Rattle.object.specs.Kind.{kindOf}
-use Rattle.object.specs.Object.{objectAt, byKind, wideIn, dataIn, utf16In, arrayIn, fixedAt, refusedBy}
+use Rattle.object.specs.Object.{objectAt, byKind, wideIn, dateOf, dataIn, utf16In, arrayIn, fixedAt, refusedBy}
 use Rattle.layout.specs.Layout.{numberAt, entryAt, given, dueAt, inArray, dueIn, standsFrom, standsAt, dueOf, lookIn, lookFrom, lookOf, sourceOf}
 use Rattle.layout.specs.Looked.{startOf}
 use Rattle.layout.specs.Bytes.{dataAsked, textAsked, eventAsked}
@@ -44,7 +45,7 @@ pub record Case : Type 0 where
   pub file : List ℕ
   pub answer : List Told
 
--- P2 to P8 and P12
+-- P2 to P8 and P12; the date next to infinity, and infinity, which is none
 abbrev pub cases : List Case
 cases =
     record { file = one (0x10 ∷ 0xFF ∷ []); answer = means (integer (pos 255)) 8 ∷ ended ∷ ended ∷ [] } ∷
@@ -57,10 +58,12 @@ cases =
     record { file = one (0x61 ∷ 0xD8 ∷ 0x00 ∷ []); answer = refused 13 [] 8 ∷ ended ∷ ended ∷ [] } ∷
     record { file = inHeader 0; answer = means (text (0xE7 ∷ 0x81 ∷ 0xAC ∷ 0xE6 ∷ 0xA5 ∷ 0xB3 ∷ [])) 0 ∷ ended ∷ ended ∷ [] } ∷
     record { file = one (0xA1 ∷ 0x00 ∷ []); answer = means (array (some 1)) 8 ∷ refused 14 [] 8 ∷ ended ∷ [] } ∷
+    record { file = one (0x33 ∷ 0x7F ∷ 0xEF ∷ replicate 6 0xFF); answer = means (date 0x7FEF_FFFF_FFFF_FFFF) 8 ∷ ended ∷ ended ∷ [] } ∷
+    record { file = one (0x33 ∷ 0x7F ∷ 0xF0 ∷ replicate 6 0); answer = refused 34 [] 8 ∷ ended ∷ ended ∷ [] } ∷
     []
 
 pub cases-right : map (λ (c : Case). answers 3 (c .file) freshReader) cases ≡ map (λ (c : Case). c .answer) cases
-unfolding be onto signedOf widthOf bytesIn isUtf16 isEven paired unitsOf isHigh isLow toUtf8 utf8 utf8Of scalars16 meaningOf valueOf givenOf containerAt containerOf arrayOf dictionaryOf contentAt measured headAt hasLength isLengthByte extentAt endsBefore lengthWidth kindOf objectAt byKind fixedAt refusedBy objectNumber objectValues wideIn dataIn utf16In arrayIn numberAt entryAt given dueAt inArray dueIn standsFrom standsAt dueOf lookIn lookFrom lookOf sourceOf startOf enter arrive follow stepOf answers told meaningAt bytesAsked laidOut begin withRefs goOn nextOf dataAsked textAsked eventAsked openOf innermost memberOf advanced passed entered nextIn magic begins eightAt tableOf refSizeOf sizesOf trailerOf
+unfolding be onto signedOf widthOf bytesIn isUtf16 isEven paired unitsOf isHigh isLow toUtf8 utf8 utf8Of scalars16 meaningOf valueOf givenOf containerAt containerOf arrayOf dictionaryOf contentAt measured headAt hasLength isLengthByte extentAt endsBefore lengthWidth kindOf objectAt byKind fixedAt refusedBy objectNumber objectValues wideIn dateOf isDate dataIn utf16In arrayIn numberAt entryAt given dueAt inArray dueIn standsFrom standsAt dueOf lookIn lookFrom lookOf sourceOf startOf enter arrive follow stepOf answers told meaningAt bytesAsked laidOut begin withRefs goOn nextOf dataAsked textAsked eventAsked openOf innermost memberOf advanced passed entered nextIn magic begins eightAt tableOf refSizeOf sizesOf trailerOf
 cases-right = refl
 
 -- n arrays, each inside the last, from 8 on, and the table of their offsets

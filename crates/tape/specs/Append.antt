@@ -10,7 +10,7 @@ use Rattle.event.specs.Meaning.{Meaning}
 use Rattle.tape.specs.Code.{bytesFor, allowed}
 use Rattle.tape.specs.Item.{event, readAt}
 use Rattle.tape.specs.declared.append.Appended.{Appended}
-use Rattle.tape.specs.declared.append.Appended.the-variants.{Held, BadText, NoRoom}
+use Rattle.tape.specs.declared.append.Appended.the-variants.{Held, BadEvent, NoRoom}
 
 -- how many bytes are held afterwards, or a refusal's number and place
 pub data Said : Type 0 where
@@ -20,7 +20,7 @@ pub data Said : Type 0 where
 -- the numbers of table N
 unfoldable pub said : Appended → Said
 said (Held n) = held n
-said (BadText place) = refused 20 place
+said (BadEvent place) = refused 20 place
 said (NoRoom place) = refused 27 place
 
 -- whether bytes fit into a tape from a place on

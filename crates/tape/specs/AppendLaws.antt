@@ -17,7 +17,7 @@ use Rattle.tape.specs.CodeLaws.{reads-back}
 use Rattle.tape.specs.Item.{itemAt, meaningIn, event, readAt}
 use Rattle.tape.specs.ItemLaws.{reads-item}
 use Rattle.tape.specs.declared.append.Appended.{Appended}
-use Rattle.tape.specs.declared.append.Appended.the-variants.{Held, BadText, NoRoom}
+use Rattle.tape.specs.declared.append.Appended.the-variants.{Held, BadEvent, NoRoom}
 use Rattle.tape.specs.declared.item.Item.{Item}
 use Rattle.tape.specs.declared.item.Step.the-variants.{Item as ItemOf}
 
@@ -25,13 +25,13 @@ use Rattle.tape.specs.declared.item.Step.the-variants.{Item as ItemOf}
 pub said-one : (a b : Appended) → said a ≡ said b → a ≡ b
 unfolding said
 said-one (Held m) (Held n) e = cc
-said-one (Held m) (BadText n) e = let z : _≡_ {A = ℕ} 0 1 = cc in absurd (omega arith)
+said-one (Held m) (BadEvent n) e = let z : _≡_ {A = ℕ} 0 1 = cc in absurd (omega arith)
 said-one (Held m) (NoRoom n) e = let z : _≡_ {A = ℕ} 0 1 = cc in absurd (omega arith)
-said-one (BadText m) (Held n) e = let z : _≡_ {A = ℕ} 0 1 = cc in absurd (omega arith)
-said-one (BadText m) (BadText n) e = cc
-said-one (BadText m) (NoRoom n) e = let z : _≡_ {A = ℕ} 20 27 = cc in absurd (omega arith)
+said-one (BadEvent m) (Held n) e = let z : _≡_ {A = ℕ} 0 1 = cc in absurd (omega arith)
+said-one (BadEvent m) (BadEvent n) e = cc
+said-one (BadEvent m) (NoRoom n) e = let z : _≡_ {A = ℕ} 20 27 = cc in absurd (omega arith)
 said-one (NoRoom m) (Held n) e = let z : _≡_ {A = ℕ} 0 1 = cc in absurd (omega arith)
-said-one (NoRoom m) (BadText n) e = let z : _≡_ {A = ℕ} 27 20 = cc in absurd (omega arith)
+said-one (NoRoom m) (BadEvent n) e = let z : _≡_ {A = ℕ} 27 20 = cc in absurd (omega arith)
 said-one (NoRoom m) (NoRoom n) e = cc
 
 -- an event that is appended: the tape takes it, and it stands behind what was held and in front of what lay further on

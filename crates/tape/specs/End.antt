@@ -1,5 +1,5 @@
--- Where the event that begins at a place of the tape ends. docs/FORMAT.md, rule T2. It is what `itemAt` tells, but for text that isn't UTF-8:
--- text is not looked at.
+-- Where the event that begins at a place of the tape ends. docs/FORMAT.md, rule T2. It is what `itemAt` tells, but for text that isn't UTF-8
+-- and dates that are none: neither is looked at.
 use mathlib.Core.Bool.{cond, _||_}
 use mathlib.Core.List.{List}
 use Prim.Native.Nat.{ℕ, _+_, _^_}

@@ -7,13 +7,14 @@ use native.Mathlib.Nat.{zero-add, add-zero, suc-add}
 use native.Mathlib.Omega.{arith}
 use borrow.Author.Tests.{le-leb, lt-leb, leb-true, leb-false}
 use lib.Dec.{leb}
-use lib.ListN.{length, take, drop, length-append, drop-of-length-le}
+use lib.ListN.{length, getD, take, drop, length-append, drop-of-length-le}
 use lib.Seq.{take-at}
-use Rattle.event.specs.Meaning.{Meaning}
+use Rattle.event.specs.Date.{isDate}
+use Rattle.event.specs.Meaning.{Meaning, close, date}
 use Rattle.number.specs.BeLaws.{Bytes}
 use Rattle.tape.specs.Append.{held, appendOf, appendTo}
 use Rattle.tape.specs.AppendLaws.{append-held, appended}
-use Rattle.tape.specs.Code.{bytesFor, InRange, OnTape}
+use Rattle.tape.specs.Code.{bytesFor, InRange, allowed, OnTape}
 use Rattle.tape.specs.CodeLaws.{reads-back, bytes-some}
 use Rattle.tape.specs.Events.{Events, whole, broken, before, eventsFrom, eventsOf, tapeOf}
 use Rattle.tape.specs.FormLaws.{Stands, Written, reads-written}
@@ -24,6 +25,13 @@ use Rattle.tape.specs.SameLaws.{item-within}
 abbrev pub AllOnTape : List Meaning → Type 0
 AllOnTape [] = Unit {0}
 AllOnTape (m ∷ ms) = OnTape m × AllOnTape ms
+
+-- whichever of them is a date has a date's bits
+pub all-dates : (ms : List Meaning) → AllOnTape ms → (n b : ℕ) → getD ms n close ≡ date b → isDate b ≡ true
+unfolding allowed
+all-dates [] h n b e = let z : _≡_ {A = ℕ} 0 1 = cc in absurd (omega arith)
+all-dates (m ∷ ms) h zero b e = sym (ap allowed e) ∙ h .0 .1
+all-dates (m ∷ ms) h (suc n) b e = all-dates ms (h .1) n b e
 
 -- the three turns of the walk
 events-end : (k : ℕ) (tape : List ℕ) (at : ℕ) → length tape ≤ at → eventsFrom k tape at ≡ whole []

@@ -6,14 +6,16 @@ use mathlib.Core.Path.{_≡_, refl}
 use Prim.Native.Nat.{ℕ}
 use lib.Ieee.{nanBits, isNan, ofBits, toBits}
 use lib.IntN.{pos, negsuc}
+use lib.ListN.{replicate}
 use Rattle.event.specs.Date.{isDate}
+use Rattle.event.specs.DateLaws.{largest, beyond}
 use Rattle.event.specs.Meaning.{Meaning, array, dictionary, close, boolean, bytes, date, integer, real, text, uid, meaningOf, valueOf, givenOf}
 use Rattle.event.specs.Real.{realOf, floatBits}
 use Rattle.number.specs.Be.{be, onto as digit, bytesOf}
 use Rattle.tape.specs.Append.{held, refused, fits, putOf, putTo, appendOf, appendTo}
 use Rattle.tape.specs.Code.{bytesFor, allowed}
 use Rattle.tape.specs.Events.{whole, broken, before, eventsFrom, eventsOf}
-use Rattle.tape.specs.Item.{plain, bytesAt, numbered, negative, dateIn, dataIn, textIn, ofKind, itemAt, meaningIn, bad, readingOf, readAt}
+use Rattle.tape.specs.Item.{plain, bytesAt, numbered, negative, dateIn, dataIn, textIn, ofKind, itemAt, meaningIn, event, bad, readingOf, readAt}
 use Rattle.tape.specs.Seven.{groups, seven}
 use Rattle.tape.specs.Value.{onto, numberFrom, numberAt, eightAt}
 use Rattle.unicode.specs.Unicode.{isUtf8, wellFormed, rowOf, table, within}
@@ -98,6 +100,15 @@ pub not-events :
     (bad ∷ bad ∷ bad ∷ bad ∷ bad ∷ bad ∷ bad ∷ bad ∷ bad ∷ bad ∷ bad ∷ bad ∷ [])
 unfolding readAt readingOf itemAt ofKind plain bytesAt numbered negative dateIn isDate dataIn textIn numberAt numberFrom onto eightAt isUtf8 wellFormed rowOf table within
 not-events = refl
+
+-- dates at the limits: the neighbours of infinity are read and appended; infinities and NaNs are no event, and are refused
+pub dates :
+    (map (λ (b : ℕ). readAt (bytesFor (date b)) 0) largest ≡ map (λ (b : ℕ). event (date b) 9) largest) ×
+    (map (λ (b : ℕ). readAt (bytesFor (date b)) 0) beyond ≡ replicate 5 bad) ×
+    (map (λ (b : ℕ). appendOf (replicate 9 0xEE) 0 (date b)) largest ≡ replicate 2 (held 9)) ×
+    (map (λ (b : ℕ). appendOf (replicate 9 0xEE) 0 (date b)) beyond ≡ replicate 5 (refused 20 0))
+unfolding readAt readingOf itemAt ofKind plain dateIn isDate meaningIn meaningOf eightAt be digit bytesFor bytesOf appendOf putOf fits allowed
+dates = (refl, refl, refl, refl)
 
 -- P10 of docs/FORMAT.md as a tape, and a tape that is bad behind its first event
 pub walked :

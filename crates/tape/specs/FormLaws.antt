@@ -13,7 +13,7 @@ use lib.IntN.{pos}
 use lib.ListN.{length, getD, drop, length-append, take-append-drop}
 use lib.Seq.{drop-at, drop-cons, drop-drop}
 use Rattle.event.specs.Date.{isDate}
-use Rattle.event.specs.Meaning.{Meaning, array, dictionary, close, boolean, integer, real, uid, meaningOf, valueOf, givenOf, bytes, text}
+use Rattle.event.specs.Meaning.{Meaning, array, dictionary, close, boolean, date, integer, real, uid, meaningOf, valueOf, givenOf, bytes, text}
 use Rattle.event.specs.Real.{realOf}
 use Rattle.event.specs.RealLaws.{real-bits}
 use Rattle.event.specs.declared.Event.{Event}
@@ -208,6 +208,11 @@ reads-written tape at m next good e = go (itemAt tape at) (right-item tape at go
         let means : meaningIn tape i ≡ m = cc in
         let end : i .next ≡ next = cc in
         rw (← means, ← end) (r .0)
+
+-- a date that is read has a date's bits: no tape holds an infinity or a NaN as a date
+pub read-date : (tape : List ℕ) (at b next : ℕ) → Bytes tape → readAt tape at ≡ event (date b) next → isDate b ≡ true
+unfolding allowed
+read-date tape at b next good e = reads-written tape at (date b) next good e .held .1
 
 -- the bytes of data or text reach to the next event
 pub item-ends : (tape : List ℕ) (at : ℕ) (i : Item) → Bytes tape → itemAt tape at ≡ ItemOf i → i .start + i .length ≡ i .next

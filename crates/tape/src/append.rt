@@ -5,6 +5,7 @@ use crate::seven::write_number;
 use event::Event;
 use event::Integer;
 use event::Length;
+use event::date::is_date;
 use event::real::float_bits;
 use number::be::write_be;
 use number::copy::write_bytes;
@@ -26,7 +27,7 @@ ghost use Rattle.tape.specs.Kinds.{startBytes, signKind};
 // How many bytes are held afterwards, or why nothing is appended, with the place where the event would begin.
 pub enum Appended {
     Held(usize),
-    BadText(u64),
+    BadEvent(u64),
     NoRoom(u64),
 }
 
@@ -39,13 +40,14 @@ pub fn append(tape: &mut [u8], held: usize, event: Event, bytes: &[u8]) -> Appen
     ensures { λ _. ⌜ InRange (meaningOf event (now (bytes .entry))) ⌝ }
     ensures { λ r. ⌜ ReadsBack (now (tape .exit)) held (meaningOf event (now (bytes .entry))) (said r) ⌝ }
 {
-    if is_bad_text(event, bytes) {
-        return Appended::BadText(held as u64);
+    if is_bad(event, bytes) {
+        return Appended::BadEvent(held as u64);
     }
     append_unchecked(tape, held, event, bytes)
 }
 
-// The same with text not looked at, for a caller who knows that it is UTF-8: text that isn't would stand on the tape, where no step reads it.
+// The same with text and dates not looked at, for a caller who knows that they are UTF-8 and finite: others would stand on the tape, where
+// no step reads them.
 pub fn append_unchecked(tape: &mut [u8], held: usize, event: Event, bytes: &[u8]) -> Appended
     ensures { λ r. ⌜ said r ≡ putOf (now (tape .entry)) held (bytesFor (meaningOf event (now (bytes .entry)))) ⌝ }
     ensures { λ _. ⌜ now (tape .exit) ≡ putTo (now (tape .entry)) held (bytesFor (meaningOf event (now (bytes .entry)))) ⌝ }
@@ -65,8 +67,8 @@ pub fn append_unchecked(tape: &mut [u8], held: usize, event: Event, bytes: &[u8]
     }
 }
 
-// Whether the tape can't take the event: it is text and not UTF-8.
-fn is_bad_text(event: Event, bytes: &[u8]) -> bool
+// Whether the tape can't take the event: it is text and not UTF-8, or a date and not finite.
+fn is_bad(event: Event, bytes: &[u8]) -> bool
     ensures { λ r. ⌜ r ≡ not (allowed (meaningOf event (now (bytes .entry)))) ⌝ }
 {
     match event {
@@ -75,7 +77,7 @@ fn is_bad_text(event: Event, bytes: &[u8]) -> bool
         Event::EndCollection => false,
         Event::Boolean(_) => false,
         Event::Data => false,
-        Event::Date(_) => false,
+        Event::Date(bits) => !is_date(bits),
         Event::Integer(_) => false,
         Event::Real(_) => false,
         Event::Nan(_) => false,

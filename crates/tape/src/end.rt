@@ -1,4 +1,4 @@
-// Where an event ends. Text isn't looked at, so that a walk along a tape that has been stepped through once is quick.
+// Where an event ends. Text and dates aren't looked at, so that a walk along a tape that has been stepped through once is quick.
 use crate::room::lacks_room;
 use crate::value::Value;
 use crate::value::number_at;
@@ -10,7 +10,8 @@ pub enum End {
     NoEvent,
 }
 
-// The place after the event whose kind stands at a place; `NoEvent` where `step` is bad for another reason than text that isn't UTF-8.
+// The place after the event whose kind stands at a place; `NoEvent` where `step` is bad for another reason than text that isn't UTF-8 or
+// a date that is none.
 pub fn end_of(tape: &[u8], at: usize) -> End
     ensures { λ r. ⌜ r ≡ endOf (now (tape .entry)) at ⌝ }
 {

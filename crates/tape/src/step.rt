@@ -8,6 +8,7 @@ use crate::value::number_at;
 use event::Event;
 use event::Integer;
 use event::Length;
+use event::date::is_date;
 use event::real::real_of;
 use number::signed::Negative;
 use number::signed::negative_of;
@@ -84,7 +85,10 @@ fn dated(number: Value) -> Step
     let Value::Of(bits, next) = number else {
         return Step::Bad;
     };
-    no_bytes(Event::Date(bits), next)
+    if is_date(bits) {
+        return no_bytes(Event::Date(bits), next);
+    }
+    Step::Bad
 }
 
 // A negative integer n stands as -1 - n.

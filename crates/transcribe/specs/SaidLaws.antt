@@ -6,18 +6,18 @@ use lib.Dec.{eqb}
 use Rattle.layout.specs.Said.{numberOf, valuesOf}
 use Rattle.layout.specs.SaidLaws.{refusalFrom, again}
 use Rattle.layout.specs.declared.refusal.Refusal.{Refusal}
-use Rattle.layout.specs.declared.refusal.Refusal.the-variants.{TooLong, EndOfInput, InvalidMagic, InvalidTrailerObjectOffsetSize, InvalidTrailerObjectReferenceSize, ObjectOffsetTooLarge, ObjectReferenceTooLarge, NullObjectUnimplemented, FillObjectUnimplemented, UnknownObjectType, IntegerOutOfRange, InvalidUtf8String, InvalidUtf16String, RecursiveObject, TooDeep, NoRoomForText, WrongFile, InvalidObjectLength}
+use Rattle.layout.specs.declared.refusal.Refusal.the-variants.{TooLong, EndOfInput, InvalidMagic, InvalidTrailerObjectOffsetSize, InvalidTrailerObjectReferenceSize, ObjectOffsetTooLarge, ObjectReferenceTooLarge, NullObjectUnimplemented, FillObjectUnimplemented, UnknownObjectType, IntegerOutOfRange, InvalidUtf8String, InvalidUtf16String, RecursiveObject, TooDeep, NoRoomForText, WrongFile, InvalidObjectLength, OverflowOrNanDate}
 use Rattle.transcribe.specs.Run.{End, ended, stopped, refused}
 use Rattle.transcribe.specs.Said.{endSaid}
 use Rattle.transcribe.specs.declared.Ending.{Ending}
-use Rattle.transcribe.specs.declared.Ending.the-variants.{Ended, Stopped, Refused, BadText, NoRoomForTape}
+use Rattle.transcribe.specs.declared.Ending.the-variants.{Ended, Stopped, Refused, BadEvent, NoRoomForTape}
 
 -- the ending that says this: 20 and 27 are the tape's
 endingFrom : End → Ending
 endingFrom ended = Ended
 endingFrom stopped = Stopped
 endingFrom (refused number values place) =
-    cond (eqb number 20) (BadText place) (cond (eqb number 27) (NoRoomForTape place) (Refused (refusalFrom number values) place))
+    cond (eqb number 20) (BadEvent place) (cond (eqb number 27) (NoRoomForTape place) (Refused (refusalFrom number values) place))
 
 -- a number of the reader's is neither
 other : (r : Refusal) (place : ℕ) → endingFrom (refused (numberOf r) (valuesOf r) place) ≡ Refused (refusalFrom (numberOf r) (valuesOf r)) place
@@ -40,13 +40,14 @@ other TooDeep place = refl
 other NoRoomForText place = refl
 other WrongFile place = refl
 other InvalidObjectLength place = refl
+other OverflowOrNanDate place = refl
 
 ending-again : (x : Ending) → endingFrom (endSaid x) ≡ x
 unfolding endSaid endingFrom
 ending-again Ended = refl
 ending-again Stopped = refl
 ending-again (Refused r place) = other r place ∙ ap (λ (q : Refusal). Refused q place) (again r)
-ending-again (BadText place) = refl
+ending-again (BadEvent place) = refl
 ending-again (NoRoomForTape place) = refl
 
 pub endSaid-one : (x y : Ending) → endSaid x ≡ endSaid y → x ≡ y

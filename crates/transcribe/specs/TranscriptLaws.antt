@@ -275,8 +275,8 @@ module _ {n : ℕ} {file scratch tape : List ℕ} {held : ℕ} {r : Reader} {x :
         go meanings.ended h = absurd h
         go (meanings.refused a b c) h = (rw (h .0, h .1, h .2), h .3)
 
-    pub never-bad-text : number ≡ 20 → ⊥
-    never-bad-text f = own-not number 20 (at-refusal (λ h. omega arith) (λ h. omega arith) .1) not-step-20 (λ e. omega arith) f
+    pub never-bad-event : number ≡ 20 → ⊥
+    never-bad-event f = own-not number 20 (at-refusal (λ h. omega arith) (λ h. omega arith) .1) not-step-20 (λ e. omega arith) f
 
     -- 16 is the scratch's alone
     pub at-scratch : number ≡ 16 → (m : Meaning) × (offset : ℕ) × (w .next ≡ means m offset) × NoScratch file scratch m offset number values place

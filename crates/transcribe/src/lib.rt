@@ -16,7 +16,7 @@ pub enum Ending {
     Ended,
     Stopped,
     Refused(Refusal, u64),
-    BadText(u64),
+    BadEvent(u64),
     NoRoomForTape(u64),
 }
 

@@ -32,7 +32,7 @@ ghost use Rattle.transcribe.specs.Walk.{Notable};
 // Why an event is not noted.
 pub enum Failure {
     Refused(Refusal, u64),
-    BadText(u64),
+    BadEvent(u64),
     NoRoomForTape(u64),
 }
 
@@ -130,7 +130,7 @@ fn noted(appended: Appended) -> NoteAnswer
 {
     match appended {
         Appended::Held(n) => NoteAnswer::Held(n),
-        Appended::BadText(place) => NoteAnswer::Fails(Failure::BadText(place)),
+        Appended::BadEvent(place) => NoteAnswer::Fails(Failure::BadEvent(place)),
         Appended::NoRoom(place) => NoteAnswer::Fails(Failure::NoRoomForTape(place)),
     }
 }

@@ -221,8 +221,8 @@ fn failed(failure: Failure, held: usize) -> Transcript
 {
     match failure {
         Failure::Refused(refusal, place) => refused(refusal, place, held),
-        Failure::BadText(place) => Transcript {
-            ending: Ending::BadText(place),
+        Failure::BadEvent(place) => Transcript {
+            ending: Ending::BadEvent(place),
             held,
         },
         Failure::NoRoomForTape(place) => Transcript {

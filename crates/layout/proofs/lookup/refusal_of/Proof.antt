@@ -29,6 +29,9 @@ enum-told-6 c = search needs
 enum-told-7 : tie.Need-enum-told-7
 enum-told-7 c = search needs
 
+enum-told-8 : tie.Need-enum-told-8
+enum-told-8 c = search needs
+
 returns : tie.Need-returns
 unfolding numberOf valuesOf objectNumber objectValues
 returns c = record { number = rw (c .enum-told .given .1); values = rw (c .enum-told .given .1) }
@@ -61,6 +64,10 @@ returns-8 : tie.Need-returns-8
 unfolding numberOf valuesOf objectNumber objectValues
 returns-8 c = record { number = rw (c .enum-told7 .given .1); values = rw (c .enum-told7 .given .1) }
 
+returns-9 : tie.Need-returns-9
+unfolding numberOf valuesOf objectNumber objectValues
+returns-9 c = record { number = rw (c .enum-told8 .given .1); values = rw (c .enum-told8 .given .1) }
+
 pub refusal-of-spec : {M : Type 1} → statement M
 refusal-of-spec =
     tie.close
@@ -73,6 +80,7 @@ refusal-of-spec =
     enum-told-5
     enum-told-6
     enum-told-7
+    enum-told-8
     returns
     returns-2
     returns-3
@@ -80,4 +88,5 @@ refusal-of-spec =
     returns-5
     returns-6
     returns-7
-    returns-8)
+    returns-8
+    returns-9)

@@ -104,6 +104,9 @@ add-be-at-5 c = search needs
 be-at-requires-5 : tie.Need-be-at-requires-5
 be-at-requires-5 c κs = search needs
 
+date-requires : tie.Need-date-requires
+date-requires c κs = search needs
+
 enum-known-kind-2 : tie.Need-enum-known-kind-2
 enum-known-kind-2 c = search needs
 
@@ -196,10 +199,10 @@ returns-9 c =
     rw (c .before .before .enum-told8 .given .1, fixed-there (s .args .file .now) (s .args .offset) 8 realIn (s .args .kind) (s .pre .0) (ap fixedWidth (c .before .before .enum-told8 .given .1)), c .real-of .ensures, c .before .be-at4 .ensures)
 
 returns-10 : tie.Need-returns-10
-unfolding byKind fixedWidth foundOf
+unfolding byKind fixedWidth
 returns-10 c =
-    let s = c .before .before .before .before in
-    rw (c .before .enum-told9 .given .1, fixed-there (s .args .file .now) (s .args .offset) 8 dateIn (s .args .kind) (s .pre .0) (ap fixedWidth (c .before .enum-told9 .given .1)), c .be-at5 .ensures)
+    let s = c .before .before .before .before .before in
+    rw (c .before .before .enum-told9 .given .1, fixed-there (s .args .file .now) (s .args .offset) 8 dateIn (s .args .kind) (s .pre .0) (ap fixedWidth (c .before .before .enum-told9 .given .1)), c .date .ensures, c .before .be-at5 .ensures)
 
 returns-11 : tie.Need-returns-11
 unfolding byKind
@@ -262,6 +265,7 @@ by-kind-spec =
     enum-told-9
     add-be-at-5
     be-at-requires-5
+    date-requires
     enum-known-kind-2
     data-at-requires
     enum-known-kind-3

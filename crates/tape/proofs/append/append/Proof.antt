@@ -10,8 +10,8 @@ use Rattle.tape.proofs.Range.{in-range}
 use Rattle.tape.proofs.append.append.Statement.{statement}
 use Rattle.tape.proofs.append.append.Tie as tie
 
-is-bad-text-requires : tie.Need-is-bad-text-requires
-is-bad-text-requires c κs = search needs
+is-bad-requires : tie.Need-is-bad-requires
+is-bad-requires c κs = search needs
 
 -- what the event means is in range
 range : (c : tie.After-shared-slice-known) → let a = c .before .before .args in InRange (meaningOf (a .event) (a .bytes .now))
@@ -22,7 +22,7 @@ range c =
 returns : tie.Need-returns
 unfolding said
 returns c =
-    let u = not-true _ (sym (c .before .is-bad-text .ensures) ∙ c .if1 .taken) in
+    let u = not-true _ (sym (c .before .is-bad .ensures) ∙ c .if1 .taken) in
     put-reads _ _ _ (range (c .before .before)) (put-bad _ _ _ u)
 
 append-unchecked-requires : tie.Need-append-unchecked-requires
@@ -33,8 +33,8 @@ same-length c = search needs
 
 returns-2 : tie.Need-returns-2
 returns-2 c =
-    let u = not-false _ (sym (c .before .before .before .before .before .is-bad-text .ensures) ∙ c .before .before .before .before .if1 .left) in
+    let u = not-false _ (sym (c .before .before .before .before .before .is-bad .ensures) ∙ c .before .before .before .before .if1 .left) in
     put-reads _ _ _ (range (c .before .before .before .before .before .before)) (put-event _ _ _ u (c .before .before .append-unchecked .ensures))
 
 pub append-spec : {M : Type 1} → statement M
-append-spec = tie.close (tie.spec is-bad-text-requires returns append-unchecked-requires same-length returns-2)
+append-spec = tie.close (tie.spec is-bad-requires returns append-unchecked-requires same-length returns-2)

@@ -1,12 +1,11 @@
--- `is_bad_text`: text is checked, and nothing else is bad.
+-- `is_bad`: text and dates are checked, and nothing else is bad.
 use mathlib.Core.Bool.{not}
 use mathlib.Core.Path.{ap}
 use borrow.Author.Needs.{needs}
-use Rattle.event.specs.Date.{isDate}
 use Rattle.event.specs.Meaning.{meaningOf}
 use Rattle.tape.specs.Code.{allowed}
-use Rattle.tape.proofs.append.is_bad_text.Statement.{statement}
-use Rattle.tape.proofs.append.is_bad_text.Tie as tie
+use Rattle.tape.proofs.append.is_bad.Statement.{statement}
+use Rattle.tape.proofs.append.is_bad.Tie as tie
 
 enum-told : tie.Need-enum-told
 enum-told c = search needs
@@ -23,6 +22,12 @@ enum-told-4 c = search needs
 enum-told-5 : tie.Need-enum-told-5
 enum-told-5 c = search needs
 
+enum-known-event : tie.Need-enum-known-event
+enum-known-event c = search needs
+
+is-date-requires : tie.Need-is-date-requires
+is-date-requires c κs = search needs
+
 enum-told-6 : tie.Need-enum-told-6
 enum-told-6 c = search needs
 
@@ -35,14 +40,11 @@ enum-told-8 c = search needs
 enum-told-9 : tie.Need-enum-told-9
 enum-told-9 c = search needs
 
-enum-told-10 : tie.Need-enum-told-10
-enum-told-10 c = search needs
-
 is-utf8-requires : tie.Need-is-utf8-requires
 is-utf8-requires c κs = search needs
 
-enum-told-11 : tie.Need-enum-told-11
-enum-told-11 c = search needs
+enum-told-10 : tie.Need-enum-told-10
+enum-told-10 c = search needs
 
 returns : tie.Need-returns
 unfolding meaningOf allowed
@@ -65,31 +67,31 @@ unfolding meaningOf allowed
 returns-5 c = rw (c .enum-told5 .given .1)
 
 returns-6 : tie.Need-returns-6
-unfolding meaningOf allowed isDate
-returns-6 c = rw (c .enum-told6 .given .1)
+unfolding meaningOf allowed
+returns-6 c = rw (c .before .before .event .given .1) (ap not (c .is-date .ensures))
 
 returns-7 : tie.Need-returns-7
 unfolding meaningOf allowed
-returns-7 c = rw (c .enum-told7 .given .1)
+returns-7 c = rw (c .enum-told6 .given .1)
 
 returns-8 : tie.Need-returns-8
 unfolding meaningOf allowed
-returns-8 c = rw (c .enum-told8 .given .1)
+returns-8 c = rw (c .enum-told7 .given .1)
 
 returns-9 : tie.Need-returns-9
 unfolding meaningOf allowed
-returns-9 c = rw (c .enum-told9 .given .1)
+returns-9 c = rw (c .enum-told8 .given .1)
 
 returns-10 : tie.Need-returns-10
 unfolding meaningOf allowed
-returns-10 c = rw (c .before .enum-told10 .given .1) (ap not (c .is-utf8 .ensures))
+returns-10 c = rw (c .before .enum-told9 .given .1) (ap not (c .is-utf8 .ensures))
 
 returns-11 : tie.Need-returns-11
 unfolding meaningOf allowed
-returns-11 c = rw (c .enum-told11 .given .1)
+returns-11 c = rw (c .enum-told10 .given .1)
 
-pub is-bad-text-spec : {M : Type 1} → statement M
-is-bad-text-spec =
+pub is-bad-spec : {M : Type 1} → statement M
+is-bad-spec =
     tie.close
     (tie.spec
     enum-told
@@ -97,13 +99,14 @@ is-bad-text-spec =
     enum-told-3
     enum-told-4
     enum-told-5
+    enum-known-event
+    is-date-requires
     enum-told-6
     enum-told-7
     enum-told-8
     enum-told-9
-    enum-told-10
     is-utf8-requires
-    enum-told-11
+    enum-told-10
     returns
     returns-2
     returns-3
