@@ -34,6 +34,8 @@ use Rattle.exports.proofs.tape_step.zm_tape_step.Kinds as zm-tape-step-kinds
 use Rattle.exports.proofs.tape_step.zm_tape_step.Reads as zm-tape-step-reads
 use Rattle.exports.proofs.transcript.zm_transcribe.Kinds as zm-transcribe-kinds
 use Rattle.exports.proofs.transcript.zm_transcribe.Reads as zm-transcribe-reads
+use Rattle.event.proofs.date.is_date.Kinds as is-date-kinds
+use Rattle.event.proofs.date.is_date.Reads as is-date-reads
 use Rattle.event.proofs.real.real_of.Kinds as real-of-kinds
 use Rattle.event.proofs.real.real_of.Reads as real-of-reads
 use Rattle.event.proofs.real.short_real_of.Kinds as short-real-of-kinds
@@ -131,6 +133,9 @@ use Rattle.tape.proofs.append.put_kind.Kinds as put-kind-kinds
 use Rattle.tape.proofs.append.put_kind.Reads as put-kind-reads
 use Rattle.tape.proofs.append.put_number.Kinds as put-number-kinds
 use Rattle.tape.proofs.append.put_number.Reads as put-number-reads
+
+is-date-one : One 0 is-date-kinds.ps is-date-kinds.r is-date-reads.Post (Unit {0}) (λ κs e. tt)
+is-date-one κs a x y e f p q = (p ∙ sym q, refl)
 
 real-of-one : One 0 real-of-kinds.ps real-of-kinds.r real-of-reads.Post (Unit {0}) (λ κs e. tt)
 real-of-one κs a x y e f p q = (p ∙ sym q, refl)

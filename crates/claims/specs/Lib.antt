@@ -2,6 +2,7 @@ pub mod After
 pub mod Answers
 pub mod Call
 pub mod Calls
+pub mod Dates
 pub mod Depth
 pub mod Due
 pub mod Element

@@ -1,5 +1,7 @@
 -- WHAT HOLDS OF EVERY WRITTEN FILE, by the bytes as the reader's definitions read them: every object is looked up, references are in range, every
--- object is reached, equal scalars are one object, each container but the root is named once, from a lower number, and objects end before the table.
+-- object is reached, equal scalars are one object, each container but the root is named once, from a lower number, objects end before the table,
+-- and dates are finite.
+use mathlib.Core.Bool.{true}
 use mathlib.Core.List.{List, map}
 use mathlib.Core.Path.{_≡_, refl, sym, ap, _∙_}
 use Prim.Native.Nat.{ℕ, _+_, _*_, _≤_, _<_}
@@ -7,8 +9,10 @@ use native.Mathlib.Omega.{arith}
 use lib.ListN.{length, getD}
 use Rattle.event.specs.Format.{maxOpen}
 use Rattle.number.specs.Width.{bytesIn}
-use Rattle.event.specs.Meaning.{Meaning}
+use Rattle.event.specs.Date.{isDate}
+use Rattle.event.specs.Meaning.{Meaning, close, date, meaningOf}
 use Rattle.event.specs.declared.Event.{Event}
+use Rattle.event.specs.declared.Event.the-variants.{Date}
 use Rattle.object.specs.Content.{trailerAt}
 use Rattle.layout.specs.FoundLaws.{refsOf}
 use Rattle.layout.specs.Layout.{entryAt, lookOf, sourceOf}
@@ -17,7 +21,8 @@ use Rattle.layout.specs.Trailer.{lays, trailerOf}
 use Rattle.layout.specs.declared.layout.Entry.the-variants.{Of}
 use Rattle.layout.specs.declared.layout.Layout.{Layout}
 use Rattle.reader.specs.Meanings.{meaningAt}
-use Rattle.tape.specs.Code.{bytesFor}
+use Rattle.tape.specs.Code.{bytesFor, allowed}
+use Rattle.tape.specs.EventsLaws.{all-dates}
 use Rattle.written.specs.File.{bytesAt, placeOf, fileOf, fileFor}
 use Rattle.written.specs.FileLaws.{order-some}
 use Rattle.written.specs.Graph.{Scalar, Piece, pieceOf, val, box, order, number, objectOf, meant}
@@ -173,3 +178,13 @@ module _ (ms : List Meaning) (a : Accepted ms) where
   pub table-ends : layoutFor ms .table + layoutFor ms .count * bytesIn (layoutFor ms .offsets) ≡ trailerAt (fileFor ms)
   unfolding fileFor
   table-ends = rw offsets-size (sym (trailer-at es))
+
+  -- every date, of the events and of the objects, is a finite number's
+  pub dates-written : (n b : ℕ) → getD ms n close ≡ date b → isDate b ≡ true
+  dates-written = all-dates ms (a .held)
+
+  pub dates-there : (i : ℕ) → i < layoutFor ms .count → (b at : ℕ) → lookOf (fileFor ms) (layoutFor ms) i ≡ scalar (Date b) at → isDate b ≡ true
+  unfolding meaningAt meaningOf allowed
+  dates-there i h b at look =
+      let x = value-at i h (Date b) at look in
+      sym (ap allowed (x .means)) ∙ sound ms a .scalars (x .bytes) (x .named) .1 .1

@@ -1,11 +1,14 @@
 -- All that is claimed of a written file, of its bytes alone.
+use mathlib.Core.Bool.{true}
 use mathlib.Core.List.{List, _++_}
 use mathlib.Core.Path.{_≡_}
 use Prim.Native.Nat.{ℕ, _+_, _*_, _≤_, _<_}
 use lib.ListN.{length, replicate}
 use Rattle.number.specs.Width.{bytesIn}
+use Rattle.event.specs.Date.{isDate}
 use Rattle.event.specs.Meaning.{Meaning}
 use Rattle.event.specs.declared.Event.{Event}
+use Rattle.event.specs.declared.Event.the-variants.{Date}
 use Rattle.object.specs.Content.{trailerAt}
 use Rattle.layout.specs.FoundLaws.{refsOf}
 use Rattle.layout.specs.Layout.{lookOf}
@@ -45,6 +48,7 @@ pub record Good (file : List ℕ) (ms : List Meaning) : Type 0 where
   pub from-lower : (m i : ℕ) → i < layout .count → (s : Shape) (k at : ℕ) → lookOf file layout i ≡ container s k at → Names file layout m i → m < i
   pub ends-before : (i : ℕ) → i < layout .count → EndsBefore file layout i
   pub table-ends : layout .table + layout .count * bytesIn (layout .offsets) ≡ trailerAt file
+  pub dates : (i : ℕ) → i < layout .count → (b at : ℕ) → lookOf file layout i ≡ scalar (Date b) at → isDate b ≡ true
   -- the answers of a fresh reader: what is put for the events, each with an offset, then the end for ever
   pub put : List Put
   pub answered : (m : ℕ) → answers (length ms + m) file freshReader ≡ toldOf put ++ replicate m ended
@@ -71,6 +75,7 @@ good ms a = record {
   from-lower = claims.from-lower ms a;
   ends-before = claims.ends-before ms a;
   table-ends = claims.table-ends ms a;
+  dates = claims.dates-there ms a;
   put = handedOf ms;
   answered = means-back ms a;
   means = handed-means ms a;

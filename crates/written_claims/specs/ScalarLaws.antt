@@ -16,6 +16,7 @@ use Rattle.number.specs.SignedLaws.{signed-bits}
 use Rattle.number.specs.Size.{sizeOf}
 use Rattle.number.specs.SizeLaws.{Sized, one, two, four, eight, sized, sized-pos, sized-le, fits-itself}
 use Rattle.number.specs.declared.width.Width.{Width}
+use Rattle.event.specs.Date.{isDate}
 use Rattle.event.specs.Meaning.{Meaning, array, dictionary, close, boolean, bytes, date, integer, real, text, uid, meaningOf, valueOf}
 use Rattle.event.specs.Real.{realOf}
 use Rattle.event.specs.RealLaws.{real-bits}
@@ -28,7 +29,7 @@ use Rattle.unicode.specs.ToUtf16Walk.{length-utf16, counted}
 use Rattle.number.specs.Part.{part}
 use Rattle.object.specs.Kind.{kindOf}
 use Rattle.object.specs.KindLaws.{kind-data, kind-utf8, kind-utf16, kind-uid}
-use Rattle.object.specs.Object.{Found, fixedAt, unsignedIn, signedIn, realIn, dateIn, uidIn, byKind, objectAt, wideIn, dataIn, utf8In, utf16In}
+use Rattle.object.specs.Object.{Found, fixedAt, unsignedIn, signedIn, realIn, dateOf, dateIn, uidIn, byKind, objectAt, wideIn, dataIn, utf8In, utf16In}
 use Rattle.object.specs.Object as found
 use Rattle.object.specs.declared.kind.Kind.the-variants as kind
 use Rattle.tape.specs.Code.{InRange, allowed, OnTape}
@@ -82,9 +83,9 @@ module _ (file : List ℕ) (at : ℕ) where
   unfolding scalarBytes byKind kindOf
   real-reads b h wh = number-reads 0x23 8 b realIn (realOf b) (real b) (λ refs. refl) (λ s v. rw v) h (λ s. real-bits b s h) wh
 
-  date-reads : (b : ℕ) → b < 2 ^ 64 → Whole file at (scalarBytes (date b)) → Reads file at (date b)
-  unfolding scalarBytes byKind kindOf meaningOf
-  date-reads b h wh = number-reads 0x33 8 b dateIn (Date b) (date b) (λ refs. refl) (λ s v. rw v) h (λ s. refl) wh
+  date-reads : (b : ℕ) → b < 2 ^ 64 → isDate b ≡ true → Whole file at (scalarBytes (date b)) → Reads file at (date b)
+  unfolding scalarBytes byKind kindOf dateOf meaningOf
+  date-reads b h d wh = number-reads 0x33 8 b dateIn (Date b) (date b) (λ refs. refl) (λ s v. rw (v, d)) h (λ s. refl) wh
 
   uid-reads : (n : ℕ) → n < 2 ^ 64 → Whole file at (scalarBytes (uid n)) → Reads file at (uid n)
   unfolding scalarBytes byKind meaningOf
@@ -169,7 +170,7 @@ scalar-reads file at close i h wh = absurd i
 scalar-reads file at (boolean false) i h wh = boolean-reads file at false wh
 scalar-reads file at (boolean true) i h wh = boolean-reads file at true wh
 scalar-reads file at (bytes s) i h wh = data-reads file at s (h .0) wh
-scalar-reads file at (date b) i h wh = date-reads file at b (h .0) wh
+scalar-reads file at (date b) i h wh = date-reads file at b (h .0) (h .1) wh
 scalar-reads file at (integer z) i h wh = integer-reads file at z (h .0) wh
 scalar-reads file at (real b) i h wh = real-reads file at b (h .0) wh
 scalar-reads file at (text s) i h wh = text-reads file at s (h .1) (h .0) wh

@@ -1,4 +1,4 @@
--- THE CASES of docs/FORMAT.md, P, proved together: P1 of sizes; P2 to P8 and P12 of reading; P9 to P11 of writing, with [[1], "a"] and {"a": 1, "k": "a"}, which
+-- THE CASES of docs/FORMAT.md, P, proved together: P1 of sizes; P2 to P8, P12 and two dates of reading; P9 to P11 of writing, with [[1], "a"] and {"a": 1, "k": "a"}, which
 -- pin the order of numbers and of bytes, and the reading of these five files; 64 and 65 arrays, each inside the last, written and read.
 use mathlib.Core.Bool.{true}
 use mathlib.Core.List.{List, [], _∷_, _++_, map}
@@ -74,7 +74,7 @@ arrays-answered = (rw arrays-written refl, refl)
 pub cases :
     -- P1
     (map sizeOf (0 ∷ 255 ∷ 256 ∷ 65_535 ∷ 65_536 ∷ 4_294_967_295 ∷ 4_294_967_296 ∷ []) ≡ 1 ∷ 1 ∷ 2 ∷ 2 ∷ 4 ∷ 4 ∷ 8 ∷ []) ×
-    -- P2 to P8, P12
+    -- P2 to P8, P12, the dates next to and at infinity
     (map (λ (c : reading.Case). answers 3 (c .file) freshReader) reading.cases ≡ map (λ (c : reading.Case). c .answer) reading.cases) ×
     -- P9, P10, P11, [[1], "a"] and {"a": 1, "k": "a"}: written, and read
     (map (λ (c : writing.Case). fileFor (c .events)) writing.cases ≡ map (λ (c : writing.Case). c .file) writing.cases) ×
