@@ -30,6 +30,11 @@ def day_and_time(seconds):
     return (0, t.year, t.month, t.day, t.hour, t.minute, t.second)
 
 
+def is_date(bits):
+    """Whether a file or a tape may hold a date of these bits: they are those of a finite number."""
+    return bits >> 52 & 0x7FF != 0x7FF
+
+
 def floor_of(bits):
     """The floor of the number that 64 bits are, by its numerator and denominator; None where they are no number."""
     x = struct.unpack("=d", struct.pack("=Q", bits))[0]

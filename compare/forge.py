@@ -14,7 +14,7 @@ import sys
 import model
 from generator import read_families
 
-FAMILIES = ["tree", "graphs", "shared", "recursive", "depth", "distinct", "offsets", "rooms", "lengths", "scalars", "utf16", "worked"]
+FAMILIES = ["tree", "graphs", "shared", "recursive", "depth", "distinct", "offsets", "rooms", "lengths", "scalars", "utf16", "worked", "dates"]
 FIELD_BITS = [1, 32, 8, 8, 32, 32, 64, 64]
 NAMES = {kind: name for name, kind in model.KINDS.items()}
 MARKERS = [0x08, 0x09, 0x10, 0x11, 0x12, 0x13, 0x14, 0x22, 0x23, 0x33, 0x40, 0x50, 0x60, 0x80, 0xA0, 0xD0]  # from 40 on 16 at a time

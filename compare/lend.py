@@ -17,13 +17,13 @@ import sys
 sys.dont_write_bytecode = True  # nothing is left beside the sources
 
 import write_model
-from generator import write_families
+from generator import worked, write_families
 
 RECORDED = pathlib.Path(__file__).parent / "recorded"
 FILLING = b"\xaa"
 DRAWN = 160  # bytes of a drawn tape
 CHUNK = 380  # lines for one run of the program, whose buffer holds so many
-DATED = 20  # tapes with dates in the sample
+DATED = 20  # tapes with dates in the sample, drawn
 SMALL = 40  # bytes of a tape in the sample that is lent words and output
 
 
@@ -105,7 +105,7 @@ def sample(stdin, stdout):
     answers = [recorded_answer(line) for line in (RECORDED / "writer-answers.txt").read_text().splitlines()]
     made = [(tape.hex(), [answer]) for tape, answer in zip(tapes, answers, strict=True)]
     rng = random.Random("sample")
-    dated = dict.fromkeys(write_families.dates(rng) for _ in range(DATED))
+    dated = dict.fromkeys([*worked.date_tapes(), *(write_families.dates(rng) for _ in range(DATED))])
     made += [(tape.hex(), [plain_answer(tape)]) for tape in dated]
     for index, tape in enumerate(each for each in tapes if len(each) <= SMALL):
         kinds = lendings(rng, tape)

@@ -32,7 +32,7 @@ class Refused(Exception):
 
 
 class Added(Refused):
-    """A refusal by a rule that document 02 adds, where the crate goes on."""
+    """A refusal by a rule that document 02 adds."""
 
 
 class Wrong(Exception):
@@ -111,7 +111,10 @@ def object_at(file, refs, offset):
     if marker == 0x23:
         return "scalar", f"real {whole(file, offset, offset + 1, 8):016x}"
     if marker == 0x33:
-        return "scalar", f"date {whole(file, offset, offset + 1, 8):016x}"
+        bits = whole(file, offset, offset + 1, 8)
+        if not dates.is_date(bits):
+            raise Added(34, offset)
+        return "scalar", f"date {bits:016x}"
     if high in (4, 5, 6):
         length, start = head(file, offset)
         size = length * 2 if high == 6 else length

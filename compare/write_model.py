@@ -42,7 +42,7 @@ def scalar_at(tape, at):
     kind = tape[at]
     if kind in (5, 6):
         content = tape[at + 1 : at + 9]
-        return (content, at + 9) if len(content) == 8 else None
+        return (content, at + 9) if len(content) == 8 and (kind == 5 or is_finite(content)) else None
     got = number_at(tape, at + 1)
     if got is None or kind in (3, 7):
         return got
@@ -53,6 +53,11 @@ def scalar_at(tape, at):
     if len(content) < value or (kind == 9 and not is_utf8(content)):
         return None
     return content, start + value
+
+
+def is_finite(content):
+    """Whether eight bytes are a finite number's: its exponent isn't all ones."""
+    return int.from_bytes(content[:2], "big") >> 4 & 0x7FF != 0x7FF
 
 
 def is_utf8(content):

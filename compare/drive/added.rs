@@ -5,12 +5,19 @@ use std::{
     io::{self, Cursor, Read, Seek, SeekFrom},
 };
 
-/// The number with which an object below T is refused by a rule that document 02 adds.
+/// The number with which an object below T is refused by a rule that document 02 adds, and that the crate doesn't have.
 pub fn refusal(file: &[u8], offset: usize) -> Option<u8> {
     if odd_length(file, offset) {
         return Some(31);
     }
     (end(file, offset) > file.len() as u128 - 32).then_some(6)
+}
+
+/// #110: whether the object at an offset, which ends at or before T, is a date that is infinite or no number: 34. The crate refuses
+/// these too, and dates that are too far off for its clock.
+pub fn no_date(file: &[u8], offset: usize) -> bool {
+    let bits = file[offset + 1..offset + 9].try_into();
+    file[offset] == 0x33 && bits.is_ok_and(|bits| !f64::from_be_bytes(bits).is_finite())
 }
 
 /// #102: a length that stands behind a byte other than 10, 11, 12 and 13.

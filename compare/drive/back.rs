@@ -28,7 +28,7 @@ use filled::Filled;
 use plist::stream::{BinaryWriter, Event, Writer};
 use random::Random;
 use theirs::{Answer, Watched};
-use write_families::{every_kind, every_number, Stock, FAMILIES};
+use write_families::{every_dated, every_kind, every_number, Stock, FAMILIES};
 
 const USAGE: &str = "usage: back RECORDED REAL [--seed N] [--count N] [--print N]";
 
@@ -118,6 +118,7 @@ fn compare(settings: &Settings, stock: &Stock) -> ExitCode {
     (settings.real.iter()).for_each(|tape| judge.ask("of other programs", tape));
     (every_number(stock).iter()).for_each(|tape| judge.ask("every number", tape));
     (every_kind().iter()).for_each(|tape| judge.ask("every kind", tape));
+    (every_dated().iter()).for_each(|tape| judge.ask("every date", tape));
     let enough = judge.written + settings.count;
     drawn(settings, stock, |family, tape| {
         judge.ask(family, tape);

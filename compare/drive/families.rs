@@ -13,9 +13,10 @@ pub struct Stock {
 
 pub type Family = fn(&mut Random, &Stock) -> Vec<u8>;
 
-pub const FAMILIES: [(&str, Family); 23] = [
+pub const FAMILIES: [(&str, Family); 24] = [
     ("markers", markers),
     ("scalars", scalars),
+    ("dates", dates),
     ("utf8", utf8),
     ("utf16", utf16),
     ("sizes", sizes),
@@ -109,6 +110,27 @@ fn numeric(random: &mut Random, number: u64, pick: usize) -> Vec<u8> {
 fn scalars(random: &mut Random, stock: &Stock) -> Vec<u8> {
     let gap = random.of(&[0, 0, 1, 8]);
     build(&[scalar(random, stock)], Shape { gap, ..PLAIN })
+}
+
+fn date(bits: u64) -> Vec<u8> {
+    let mut object = vec![0x33];
+    put_be(&mut object, bits, 8);
+    object
+}
+
+/// One date.
+pub fn date_file(bits: u64) -> Vec<u8> {
+    build(&[date(bits)], PLAIN)
+}
+
+/// A date behind a scalar.
+fn dates(random: &mut Random, stock: &Stock) -> Vec<u8> {
+    let objects = [
+        array(&[1, 2], 1, None),
+        scalar(random, stock),
+        date(date_bits(random)),
+    ];
+    build(&objects, PLAIN)
 }
 
 fn utf8(random: &mut Random, _: &Stock) -> Vec<u8> {

@@ -48,6 +48,22 @@ pub const REALS64: [u64; 10] = [
     u64::MAX,
 ];
 
+/// The bits of dates: each sign and exponent, those of infinities and NaNs too, with fractions at both ends and about the quiet bit.
+pub fn every_date() -> impl Iterator<Item = u64> {
+    let fractions = [0, 1, (1 << 51) - 1, 1 << 51, (1 << 52) - 1];
+    (0..1 << 12).flat_map(move |high: u64| fractions.map(|fraction| high << 52 | fraction))
+}
+
+/// The same by chance, one in four at the greatest exponents.
+pub fn date_bits(random: &mut Random) -> u64 {
+    let bits = random.bits();
+    match random.below(4) {
+        0 => bits | 0x7fe0_0000_0000_0000,
+        1 => random.of(&REALS64),
+        _ => bits,
+    }
+}
+
 /// The ends of every row of the Unicode Standard's table 3-7, and scalar values between them.
 pub const SCALARS: [u32; 24] = [
     0x00, 0x41, 0x7f, 0x80, 0xe9, 0x7ff, 0x800, 0xfff, 0x1000, 0x6973, 0x706c, 0xcfff, 0xd000,

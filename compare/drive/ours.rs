@@ -102,15 +102,12 @@ pub fn tape_step(tape: &[u8], at: usize) -> Option<(usize, u64, usize, usize)> {
     }
 }
 
-/// How many bytes are held afterwards. `None` is a refusal.
-pub fn tape_append(
-    tape: &mut [u8],
-    held: usize,
-    kind: u8,
-    value: u64,
-    bytes: &[u8],
-) -> Option<usize> {
-    let after = unsafe {
+/// What appending answers to an event that is no event, 20: include/zurrimannu.h.
+pub const BAD_EVENT: u64 = u64::MAX;
+
+/// How many bytes are held afterwards, or the number that stands for a refusal.
+pub fn tape_append(tape: &mut [u8], held: usize, kind: u8, value: u64, bytes: &[u8]) -> u64 {
+    unsafe {
         zm_tape_append(
             tape.as_mut_ptr(),
             tape.len(),
@@ -120,8 +117,7 @@ pub fn tape_append(
             bytes.as_ptr(),
             bytes.len(),
         )
-    };
-    (after < u64::MAX - 2).then_some(after as usize)
+    }
 }
 
 /// What the writer answers: 0 and the file's length, or a refusal's number and place, and the kinds that 21 names.

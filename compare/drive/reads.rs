@@ -18,7 +18,7 @@ use std::{
 };
 
 use added::Seeks;
-use families::{marker_file, sized_file, Stock, FAMILIES};
+use families::{date_file, marker_file, sized_file, Stock, FAMILIES};
 use random::Random;
 use theirs::{Answer, Watched};
 
@@ -83,6 +83,9 @@ fn run(settings: &Settings) -> ExitCode {
         judge.ask("every marker", &marker_file(first, second, &[1; 18]));
         judge.ask("every marker", &marker_file(first, second, &[0; 18]));
         judge.ask("every size", &sized_file(first, second));
+    }
+    for bits in files::every_date() {
+        judge.ask("every date", &date_file(bits));
     }
     drawn(settings, &mut judge);
     judge.report(start)
@@ -280,8 +283,8 @@ impl Judge {
         }
         println!("{:>10} of these with a place that is compared", self.places);
         println!(
-            "outside: {} at a date, {} at the 65th open container, {} at an odd length byte (31), {} at an object that crosses T (6)",
-            self.dates, self.depths, self.added[31], self.added[6]
+            "outside: {} at a date, {} at the 65th open container, {} at an odd length byte (31), {} at an object that crosses T (6), {} at a date that is none (34)",
+            self.dates, self.depths, self.added[31], self.added[6], self.added[34]
         );
         if let Some((file, difference)) = &self.smallest {
             println!(

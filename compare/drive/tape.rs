@@ -62,6 +62,11 @@ pub fn step(tape: &[u8], offset: usize) -> Option<(Item<'_>, usize)> {
     Some((item, rest.offset))
 }
 
+/// Whether bits may be a date's.
+fn is_finite(bits: u64) -> bool {
+    f64::from_bits(bits).is_finite()
+}
+
 /// What is left of a tape. Each part that is taken moves the offset.
 struct Rest<'a> {
     tape: &'a [u8],
@@ -76,7 +81,7 @@ impl<'a> Rest<'a> {
             0x03 => Item::NotNegative(self.number()?),
             0x04 => Item::Negative(self.number().filter(|n| *n <= i64::MAX as u64)?),
             0x05 => Item::Real(self.bits()?),
-            0x06 => Item::Date(self.bits()?),
+            0x06 => Item::Date(self.bits().filter(|bits| is_finite(*bits))?),
             0x07 => Item::Uid(self.number()?),
             0x08 => Item::Data(self.counted()?),
             0x09 => Item::Text(str::from_utf8(self.counted()?).ok()?),

@@ -16,7 +16,7 @@ pub enum Answer {
     End,
     /// Document 01's number, the marker of 10 or 0, and the place where it is compared.
     Refused(u8, u8, Option<u64>),
-    /// A date, or one that the crate refuses: nothing is compared from here on.
+    /// A date, or one that the crate refuses and document 02 doesn't: nothing is compared from here on.
     Date,
     /// The 65th open container, which document 01 refuses.
     Depth,
@@ -90,11 +90,20 @@ impl<'a> Watched<'a> {
 
     fn refusal(&self, refusal: Refusal) -> Answer {
         match refusal {
-            Refusal::Date => Answer::Date,
+            Refusal::Date => self.no_date(),
             Refusal::Reader { number, marker, place } => {
                 Answer::Refused(number, marker, (!self.from_cache).then_some(place))
             }
             other => Answer::Unforeseen(format!("{other:?}")),
+        }
+    }
+
+    /// The crate has sought a date and refused it.
+    fn no_date(&self) -> Answer {
+        let offset = self.seeks.last.get();
+        match added::no_date(self.file, offset as usize) {
+            true => Answer::Added(34, offset),
+            false => Answer::Date,
         }
     }
 }

@@ -2,7 +2,7 @@
 //!
 //! They are those of generator/write_families.py, written for speed.
 
-use crate::files::{edge_text, good_text, REALS64};
+use crate::files::{date_bits, edge_text, every_date, good_text, REALS64};
 use crate::random::Random;
 use crate::tapes::*;
 
@@ -371,10 +371,10 @@ fn cut(random: &mut Random, stock: &Stock, tape: &mut Vec<u8>) {
 /// Dates, some of them equal, some with the bits of a real.
 fn dates(random: &mut Random, stock: &Stock, tape: &mut Vec<u8>) {
     match random.below(4) {
-        0 => put_bits(tape, DATE, random.of(&REALS64)),
+        0 => put_bits(tape, DATE, date_bits(random)),
         1 => {
             tape.push(DICTIONARY);
-            put_bits(tape, DATE, random.of(&REALS64));
+            put_bits(tape, DATE, date_bits(random));
         }
         _ => {
             tape.push(ARRAY);
@@ -384,7 +384,7 @@ fn dates(random: &mut Random, stock: &Stock, tape: &mut Vec<u8>) {
                     1 => put_bits(tape, REAL, random.of(&REALS64)),
                     _ => (),
                 }
-                put_bits(tape, DATE, random.of(&REALS64));
+                put_bits(tape, DATE, date_bits(random));
             }
             tape.push(END);
         }
@@ -440,6 +440,16 @@ pub fn every_number(stock: &Stock) -> Vec<Vec<u8>> {
         tapes.push(tape);
     }
     tapes
+}
+
+/// Dates of every sign and exponent, each alone.
+pub fn every_dated() -> Vec<Vec<u8>> {
+    let dated = |bits| {
+        let mut tape = Vec::new();
+        put_bits(&mut tape, DATE, bits);
+        tape
+    };
+    every_date().map(dated).collect()
 }
 
 /// Every two first bytes; every kind with a zero where a key is due, and with eight zeros in an array.

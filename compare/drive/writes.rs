@@ -23,7 +23,7 @@ use std::{
 use ours::Written;
 use random::Random;
 use their_writer::MAX_LENGTH;
-use write_families::{every_kind, every_number, Stock, FAMILIES};
+use write_families::{every_dated, every_kind, every_number, Stock, FAMILIES};
 
 const USAGE: &str = "usage: writes RECORDED REAL [--seed N] [--count N]";
 
@@ -116,6 +116,10 @@ fn run(settings: &Settings) -> ExitCode {
     }
     (every_number(&stock).iter()).for_each(|tape| judge.ask("every number", tape));
     (every_kind().iter()).for_each(|tape| judge.ask("every kind", tape));
+    for tape in every_dated() {
+        judge.ask("every date", &tape);
+        judge.append("every date, appended", &tape);
+    }
     drawn(settings, &stock, &mut judge);
     large(&mut judge);
     judge.report(start)
@@ -230,6 +234,22 @@ impl Judge {
         };
         self.file = file;
         compared
+    }
+
+    /// The one event of a tape, a date, is appended to an empty tape of just its length; one that is no event is refused with 20.
+    fn append(&mut self, family: &'static str, dated: &[u8]) {
+        self.count(family);
+        let (kind, bits) = (dated[0], u64::from_be_bytes(dated[1..].try_into().unwrap()));
+        let mut tape = [FILLING; 9 + BEHIND];
+        let got = ours::tape_append(&mut tape[..9], 0, kind, bits, &[]);
+        let want = tape::step(dated, 0).map_or(ours::BAD_EVENT, |(_, next)| next as u64);
+        let appended = if want == 9 { dated } else { &[] };
+        let same = tape.starts_with(appended);
+        let kept = tape[appended.len()..].iter().all(|byte| *byte == FILLING);
+        if got != want || !same || !kept {
+            let difference = format!("appending answers {got}, it must be {want}");
+            self.differs(family, dated, difference);
+        }
     }
 
     fn compare_file(&mut self, tape: &[u8], events: usize, file: &[u8]) -> Result<u32, String> {

@@ -19,6 +19,12 @@ REALS64 = (
     0xFFF0000000000000, 0x7FF8000000000000, 0x7FF0000000000001, 0xFFFFFFFFFFFFFFFF,
 )
 
+# The largest finite numbers, both infinities, quiet and signalling NaNs: the first two are dates, the others aren't.
+DATES = (
+    0x7FEFFFFFFFFFFFFF, 0xFFEFFFFFFFFFFFFF, 0x7FF0000000000000, 0xFFF0000000000000, 0x7FF8000000000000,
+    0x7FF0000000000001, 0xFFFFFFFFFFFFFFFF,
+)
+
 # The ends of every row of the Unicode Standard's table 3-7, and the scalar values between them.
 SCALARS = (
     0x00, 0x41, 0x7F, 0x80, 0xE9, 0x7FF, 0x800, 0xFFF, 0x1000, 0x6973, 0x706C, 0xCFFF, 0xD000,
@@ -36,6 +42,22 @@ UNITS = (
     0x0000, 0x0041, 0x007F, 0x0080, 0x07FF, 0x0800, 0xD7FF, 0xD800, 0xD801, 0xDBFE, 0xDBFF,
     0xDC00, 0xDC01, 0xDFFE, 0xDFFF, 0xE000, 0xFFFD, 0xFFFF,
 )
+
+
+def date_bits(rng):
+    """Any sign and exponent; now and then about the limits of dates."""
+    pick = rng.randrange(4)
+    if pick == 0:
+        return rng.choice(DATES)
+    if pick == 1:
+        return rng.choice(REALS64)
+    return rng.randrange(1 << 12) << 52 | rng.choice((0, 1, (1 << 52) - 1, rng.randrange(1 << 52)))
+
+
+def every_date():
+    """Each sign and exponent, with fractions at both ends and about the quiet bit."""
+    fractions = (0, 1, (1 << 51) - 1, 1 << 51, (1 << 52) - 1)
+    return (high << 52 | fraction for high in range(1 << 12) for fraction in fractions)
 
 
 def utf8_edge(rng):

@@ -57,6 +57,20 @@ def scalar(rng):
     return text8(edges.utf8_good(rng))
 
 
+def date(bits):
+    return b"\x33" + be(bits, 8)
+
+
+def dates(rng):
+    """A date behind a boolean or an integer."""
+    before = rng.choice((b"\x08", b"\x10\x00", b"\x13" + bytes(8)))
+    return build([array([1, 2]), before, date(edges.date_bits(rng))])
+
+
+def every_date():
+    return (build([date(bits)]) for bits in edges.every_date())
+
+
 def scalars(rng):
     return build([scalar(rng)], gap=bytes(rng.choice((0, 0, 1, 8))))
 
@@ -389,6 +403,7 @@ FAMILIES = {
     "offsets": offsets,
     "python": python,
     "worked": worked_cases,
+    "dates": dates,
 }
 
 EVERY = {
@@ -398,6 +413,7 @@ EVERY = {
     "changes": every_change,
     "utf8": every_utf8,
     "utf16": every_utf16,
+    "dates": every_date,
     "kinds": worked.kinds,
     "worked": worked.files,
 }

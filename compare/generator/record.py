@@ -21,8 +21,8 @@ from . import read_families, worked, write_families
 SEED = "recorded"
 DRAWN = 600  # of each family
 READER_INPUTS = 560
-ADDED_INPUTS = 40  # that document 02 refuses and the crate doesn't
-TAPES = 304
+ADDED_INPUTS = 40  # at least, that a rule of document 02 refuses
+TAPES = 318
 LONGEST = 300  # bytes of an input that is drawn
 MOST_PLACES = 12  # of one refusal number, in the first choice
 
@@ -133,7 +133,8 @@ def model_block(file):
 
 
 def added_list(oracle):
-    """Files with an object that document 02's added rules refuse, answered by the model."""
+    """Dates at document 02's limits, then files with an object that its added rules refuse, answered by the model."""
+    dates = [("dates", each, model_block(each)) for each in worked.dates()]
     named = list(pool(worked.files() + worked.kinds(), read_families.FAMILIES))
     answers = blocks(ask(oracle, "read", [each for _, each in named]))
     candidates = [
@@ -141,7 +142,7 @@ def added_list(oracle):
         for (name, each), block in zip(named, answers, strict=True)
         if re.search(r"(?m)^outside \d+ at \d+$", block)
     ]
-    return [candidates[i] for i in choose(candidates, reader_shows, ADDED_INPUTS)]
+    return dates + [candidates[i] for i in choose(candidates, reader_shows, ADDED_INPUTS)]
 
 
 def tape_list(oracle):

@@ -107,6 +107,15 @@ def kinds():
     return [build([each]) for each in objects]
 
 
+def dates():
+    """Document 02's dates: the two neighbours of infinity, which are taken, and what isn't."""
+    return [build([b"\x33" + be(bits, 8)]) for bits in edges.DATES]
+
+
+def date_tapes():
+    return [tape.date(bits) for bits in edges.DATES]
+
+
 def tapes():
     key = tape.text("k")
     nested = tape.start_array() * 64 + tape.END * 64

@@ -208,8 +208,12 @@ def cut(rng):
 
 
 def dates(rng):
-    event = tape.date(rng.choice(edges.REALS64))
+    event = tape.date(edges.date_bits(rng))
     return rng.choice((event, tape.array(value(rng, 1), event), tape.start_dictionary() + event))
+
+
+def every_date():
+    return (tape.date(bits) for bits in edges.every_date())
 
 
 def worked_cases(rng):
@@ -247,5 +251,6 @@ FAMILIES = {
 EVERY = {
     "integers": every_integer,
     "kinds": every_kind,
+    "dates": every_date,
     "worked": worked.tapes,
 }

@@ -143,7 +143,7 @@ impl<'a> Watched<'a> {
 
     fn refusal(&self, refusal: Refusal) -> Answer {
         match refusal {
-            Refusal::Date => Answer::Outside("date".to_string()),
+            Refusal::Date => Answer::Outside(self.no_date()),
             Refusal::Reader { number, .. } if self.from_cache => {
                 Answer::Last(format!("refused {number} at -"))
             }
@@ -151,6 +151,15 @@ impl<'a> Watched<'a> {
                 Answer::Last(format!("refused {number} at {place}"))
             }
             other => panic!("{other:?}"),
+        }
+    }
+
+    /// The crate has sought a date and refused it.
+    fn no_date(&self) -> String {
+        let offset = self.seeks.last.get();
+        match added::no_date(self.file, offset as usize) {
+            true => format!("34 at {offset}"),
+            false => "date".to_string(),
         }
     }
 }

@@ -38,8 +38,8 @@ impl<'a> Rest<'a> {
             0x04 => Event::Integer(self.negative()?),
             0x05 => Event::Real(f64::from_bits(self.bits()?)),
             0x06 => {
-                self.bits()?;
-                return Some(None);
+                let seconds = f64::from_bits(self.bits()?);
+                return seconds.is_finite().then_some(None);
             }
             0x07 => Event::Uid(Uid::new(self.number()?)),
             0x08 => Event::Data(self.counted()?.into()),
