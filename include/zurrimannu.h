@@ -21,7 +21,7 @@
 extern "C" {
 #endif
 
-/* The numbers of refusals, of the reader (1 to 17, 31), the event tape (20, 27), the writer (1, 15, 20 to 26) and the calendar (30). */
+/* The numbers of refusals, of the reader (1 to 17, 31, 34), the event tape (20, 27), the writer (1, 15, 20 to 26) and the calendar (30). */
 enum {
     ZM_TOO_LONG = 1,
     ZM_END_OF_INPUT = 2,
@@ -50,6 +50,7 @@ enum {
     ZM_NO_ROOM_FOR_TAPE = 27,
     ZM_NO_SUCH_TIME = 30,
     ZM_INVALID_OBJECT_LENGTH = 31,
+    ZM_OVERFLOW_OR_NAN_DATE = 34,
 };
 
 /* --- text ------------------------------------------------------------------------------------------ */
@@ -98,7 +99,7 @@ enum {
     ZM_INTEGER = 3,  /* the number itself */
     ZM_NEGATIVE = 4, /* of a negative integer n the number -1 - n, below 2^63 */
     ZM_REAL = 5,     /* the 64 bits */
-    ZM_DATE = 6,     /* the 64 bits of a real: seconds since 2001-01-01 00:00:00 UTC */
+    ZM_DATE = 6,     /* the 64 bits of a finite real: seconds since 2001-01-01 00:00:00 UTC */
     ZM_UID = 7,      /* the number */
     ZM_DATA = 8,     /* bytes */
     ZM_TEXT = 9,     /* bytes, which are UTF-8 */
@@ -121,14 +122,14 @@ enum {
 uint64_t zm_tape_step(const uint8_t *tape, size_t tape_length, size_t at, uint64_t *value, uint64_t *start, uint64_t *length);
 
 /* What appending answers in place of a length. */
-#define ZM_APPEND_BAD_TEXT UINT64_MAX       /* refused 20: the text isn't UTF-8 */
+#define ZM_APPEND_BAD_EVENT UINT64_MAX      /* refused 20: the text isn't UTF-8, or the date is infinite or a NaN */
 #define ZM_APPEND_NO_ROOM (UINT64_MAX - 1)  /* refused 27: the event doesn't fit */
 #define ZM_APPEND_NO_EVENT (UINT64_MAX - 2) /* `kind` is none of the kinds, or a negative integer is below -2^63 */
 
 /*
  * Appends an event to a tape of which the first `held` bytes are used. `value` is the number that goes with the kind, `bytes` are those
  * of data or text; what doesn't go with the kind isn't looked at. Answers how many bytes are held then; or ZM_APPEND_NO_EVENT, else
- * ZM_APPEND_BAD_TEXT, else ZM_APPEND_NO_ROOM. Where nothing is appended the tape is as it was; what lies behind the event always is.
+ * ZM_APPEND_BAD_EVENT, else ZM_APPEND_NO_ROOM. Where nothing is appended the tape is as it was; what lies behind the event always is.
  */
 uint64_t zm_tape_append(uint8_t *tape, size_t tape_length, size_t held, uint32_t kind, uint64_t value, const uint8_t *bytes,
                         size_t bytes_length);
