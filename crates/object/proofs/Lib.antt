@@ -1,3 +1,4 @@
+pub mod Containers
 pub mod Others
 pub mod Room
 pub mod Wide

@@ -1,21 +1,28 @@
--- The room that is left, divided by the size of an element, against the room that the elements need.
+-- The room that is left, against the room that elements need.
 use mathlib.Core.Bool.{Bool, true, false}
-use mathlib.Core.Path.{_≡_, refl}
+use mathlib.Core.Path.{_≡_, refl, sym, _∙_}
 use Prim.Native.Nat.{ℕ, _+_, _-_, _*_, _/_, _≤_, _<_}
 use native.Mathlib.Nat.{le-div-iff-mul-le, div-lt-iff-lt-mul}
 use native.Mathlib.Omega.{arith}
 use borrow.Author.Tests.{le-leb, lt-leb, leb-true, leb-false}
 use lib.Dec.{leb}
 
-pub room-by : (count each offset top : ℕ) → 0 < each → offset ≤ top → leb count ((top - offset) / each) ≡ leb (offset + count * each) top
-room-by count each offset top pos below = go (leb (offset + count * each) top) refl
+-- so many bytes
+pub room-for : (n start top : ℕ) → start ≤ top → leb n (top - start) ≡ leb (start + n) top
+room-for n start top below = go (leb (start + n) top) refl
   where
-    go : (b : Bool) → leb (offset + count * each) top ≡ b → leb count ((top - offset) / each) ≡ b
+    go : (b : Bool) → leb (start + n) top ≡ b → leb n (top - start) ≡ b
     go true t =
-        let h : offset + count * each ≤ top = leb-true _ _ t in
-        let g : count * each ≤ top - offset = omega arith in
-        le-leb _ _ (le-div-iff-mul-le pos .1 g)
+        let h : start + n ≤ top = leb-true _ _ t in
+        le-leb _ _ (let g : n ≤ top - start = omega arith in g)
     go false t =
-        let h : top < offset + count * each = leb-false _ _ t in
-        let g : top - offset < count * each = omega arith in
-        lt-leb _ _ (div-lt-iff-lt-mul pos .1 g)
+        let h : top < start + n = leb-false _ _ t in
+        lt-leb _ _ (let g : top - start < n = omega arith in g)
+
+-- elements of a size, by the room divided by it
+pub room-by : (count each start top : ℕ) → 0 < each → start ≤ top → leb count ((top - start) / each) ≡ leb (start + count * each) top
+room-by count each start top pos below = go (leb (count * each) (top - start)) refl ∙ room-for (count * each) start top below
+  where
+    go : (b : Bool) → leb (count * each) (top - start) ≡ b → leb count ((top - start) / each) ≡ leb (count * each) (top - start)
+    go true t = le-leb _ _ (le-div-iff-mul-le pos .1 (leb-true _ _ t)) ∙ sym t
+    go false t = lt-leb _ _ (div-lt-iff-lt-mul pos .1 (leb-false _ _ t)) ∙ sym t

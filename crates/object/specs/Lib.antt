@@ -3,6 +3,7 @@ pub mod Container
 pub mod ContainerLaws
 pub mod Content
 pub mod ContentLaws
+pub mod EightLaws
 pub mod End
 pub mod EndLaws
 pub mod Found

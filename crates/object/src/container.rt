@@ -2,8 +2,6 @@
 use crate::content::Content;
 use crate::content::Extent;
 use crate::content::head_at;
-use crate::kind::Kind;
-use crate::kind::kind_of;
 ghost use mathlib.Core.Path.{_≡_};
 ghost use Rattle.object.specs.Container.{containerAt};
 
@@ -13,6 +11,7 @@ pub enum Container {
     NoContainer,
 }
 
+// The head is read in one place and before the marker is looked at, so that the compiler puts this small function into its callers.
 pub fn container_at(file: &[u8], offset: usize) -> Container
     ensures { λ r. ⌜ r ≡ containerAt (now (file .entry)) offset ⌝ }
 {
@@ -22,19 +21,13 @@ pub fn container_at(file: &[u8], offset: usize) -> Container
     if file.len() - 32 <= offset {
         return Container::NoContainer;
     }
-    match kind_of(file[offset]) {
-        Kind::Array(nibble) => {
-            let Content::Fits(extent) = head_at(file, offset, nibble) else {
-                return Container::NoContainer;
-            };
-            Container::Array(extent)
-        }
-        Kind::Dictionary(nibble) => {
-            let Content::Fits(extent) = head_at(file, offset, nibble) else {
-                return Container::NoContainer;
-            };
-            Container::Dictionary(extent)
-        }
+    let marker = file[offset];
+    let Content::Fits(extent) = head_at(file, offset, marker % 16) else {
+        return Container::NoContainer;
+    };
+    match marker {
+        0xa0..=0xaf => Container::Array(extent),
+        0xd0..=0xdf => Container::Dictionary(extent),
         _ => Container::NoContainer,
     }
 }

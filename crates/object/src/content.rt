@@ -1,6 +1,7 @@
 // The length of an object that has one, and whether it ends before the trailer.
 use crate::refusal::Refusal;
-use number::be::Number;
+use event::limits::MAX_LENGTH;
+use number::be::read_eight;
 ghost use mathlib.Core.Path.{_≡_};
 ghost use Prim.Native.Nat.{_+_, _*_, _≤_, _<_};
 ghost use lib.ListN.{length};
@@ -31,15 +32,15 @@ fn length_width(byte: u8) -> usize
     }
 }
 
-// The number of 1 to 8 bytes that stand in the file.
+// The number of 1 to 8 bytes that stand in the file. Eight bytes are read at once, whatever the width, and the rest is dropped: some 20
+// instructions a number less than byte by byte.
 pub(crate) fn be_at(file: &[u8], at: usize, width: usize) -> u64
-    requires { ⌜ (0 < width) × (width ≤ 8) × (at + width ≤ length (now file)) ⌝ }
+    requires { ⌜ (0 < width) × (width ≤ 8) × (at + 8 ≤ length (now file)) ⌝ }
     ensures { λ r. ⌜ r ≡ be (part (now (file .entry)) at width) ⌝ }
 {
-    let Number::Of(n) = number::be::read_be(&file[at..at + width]) else {
-        return 0;
-    };
-    n
+    let eight = read_eight(&file[at..at + 8]);
+    let rest = 64 - 8 * width;
+    eight >> rest
 }
 
 // The extent of an object whose marker has these low four bits; its head lies within the file.
@@ -87,9 +88,10 @@ pub(crate) fn head_at(file: &[u8], offset: usize, nibble: u8) -> Content
     Content::Refused(Refusal::InvalidObjectLength)
 }
 
-// Whether content of so many elements, of so many bytes each, ends at or before the trailer.
+// Whether content of so many elements, of so many bytes each, ends at or before the trailer. In a file that is read the product fits, and
+// it takes some 20 cycles less than the quotient.
 fn has_room(file: &[u8], start: usize, count: u64, each: usize) -> bool
-    requires { ⌜ (32 ≤ length (now file)) × (0 < each) ⌝ }
+    requires { ⌜ (32 ≤ length (now file)) × (0 < each) × (each ≤ 16) ⌝ }
     ensures { λ r. ⌜ r ≡ endsBefore (now (file .entry)) (start + count * each) ⌝ }
 {
     let top = file.len() - 32;
@@ -97,12 +99,18 @@ fn has_room(file: &[u8], start: usize, count: u64, each: usize) -> bool
         return false;
     }
     let room = top - start;
-    count <= (room / each) as u64
+    if MAX_LENGTH < file.len() {
+        return count <= (room / each) as u64;
+    }
+    if (room as u64) < count {
+        return false;
+    }
+    count * each as u64 <= room as u64
 }
 
 // The content of such an object, where it ends at or before the trailer.
 pub(crate) fn content_at(file: &[u8], offset: usize, nibble: u8, each: usize) -> Content
-    requires { ⌜ (offset + 32 ≤ length (now file)) × (0 < each) ⌝ }
+    requires { ⌜ (offset + 32 ≤ length (now file)) × (0 < each) × (each ≤ 16) ⌝ }
     ensures { λ r. ⌜ r ≡ contentAt (now (file .entry)) offset nibble each ⌝ }
 {
     match head_at(file, offset, nibble) {

@@ -1,7 +1,9 @@
 -- `array_at`: the number of elements, where its content has room.
 use mathlib.Core.Path.{sym, _∙_}
+use Prim.Native.Nat.{_≤_}
+use native.Mathlib.Omega.{arith}
 use borrow.Author.Needs.{needs}
-use Rattle.number.specs.WidthLaws.{bytesIn-pos}
+use Rattle.number.specs.WidthLaws.{bytesIn-pos, bytesIn-le}
 use Rattle.object.specs.Found.{foundOf}
 use Rattle.object.specs.Object.{arrayIn}
 use Rattle.object.proofs.read.array_at.Statement.{statement}
@@ -11,7 +13,9 @@ bytes-in-requires : tie.Need-bytes-in-requires
 bytes-in-requires c κs = search needs
 
 content-at-requires : tie.Need-content-at-requires
-content-at-requires c κs = (search needs, rw (c .bytes-in .ensures) (bytesIn-pos _))
+content-at-requires c κs =
+    let h : c .bytes-in .result ≤ 8 = rw (c .bytes-in .ensures) (bytesIn-le _) in
+    (search needs, rw (c .bytes-in .ensures) (bytesIn-pos _), omega arith)
 
 enum-known-refusal : tie.Need-enum-known-refusal
 enum-known-refusal c = search needs

@@ -20,7 +20,8 @@ mul-content-at c =
 content-at-requires : tie.Need-content-at-requires
 content-at-requires c κs =
     let h : 0 < c .bytes-in .result = rw (c .bytes-in .ensures) (bytesIn-pos _) in
-    (search needs, omega arith)
+    let g : c .bytes-in .result ≤ 8 = rw (c .bytes-in .ensures) (bytesIn-le _) in
+    (search needs, omega arith, omega arith)
 
 enum-known-refusal : tie.Need-enum-known-refusal
 enum-known-refusal c = search needs
