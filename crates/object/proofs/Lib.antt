@@ -1,4 +1,3 @@
 pub mod Containers
-pub mod Others
 pub mod Room
 pub mod Wide

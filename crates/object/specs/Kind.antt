@@ -30,23 +30,3 @@ kindOf m =
     (cond (between 0xA0 0xAF m) (Array (m - 0xA0))
     (cond (between 0xD0 0xDF m) (Dictionary (m - 0xD0))
     (Unknown m))))))))))))))))))
-
--- how many bytes a scalar of fixed size has behind its marker; 0 for every other kind (R9)
-unfoldable pub fixedWidth : Kind → ℕ
-fixedWidth Null = 0
-fixedWidth False = 0
-fixedWidth True = 0
-fixedWidth Fill = 0
-fixedWidth (Unsigned width) = width
-fixedWidth Signed = 8
-fixedWidth Wide = 16
-fixedWidth ShortReal = 4
-fixedWidth Real = 8
-fixedWidth Date = 8
-fixedWidth (Data nibble) = 0
-fixedWidth (Utf8 nibble) = 0
-fixedWidth (Utf16 nibble) = 0
-fixedWidth (Uid width) = width
-fixedWidth (Array nibble) = 0
-fixedWidth (Dictionary nibble) = 0
-fixedWidth (Unknown marker) = 0

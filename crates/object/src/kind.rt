@@ -1,6 +1,6 @@
 // The kind of an object: one decision over its marker byte.
 ghost use mathlib.Core.Path.{_≡_};
-ghost use Rattle.object.specs.Kind.{kindOf, fixedWidth};
+ghost use Rattle.object.specs.Kind.{kindOf};
 
 // A number beside a kind is the width in bytes, or the low four bits of the marker.
 pub enum Kind {
@@ -46,21 +46,5 @@ pub fn kind_of(marker: u8) -> Kind
         0xa0..=0xaf => Kind::Array(marker - 0xa0),
         0xd0..=0xdf => Kind::Dictionary(marker - 0xd0),
         _ => Kind::Unknown(marker),
-    }
-}
-
-// How many bytes a scalar of fixed size has behind its marker; 0 for every other kind.
-pub(crate) fn fixed_width(kind: Kind) -> usize
-    ensures { λ r. ⌜ r ≡ fixedWidth kind ⌝ }
-{
-    match kind {
-        Kind::Unsigned(width) => width,
-        Kind::Signed => 8,
-        Kind::Wide => 16,
-        Kind::ShortReal => 4,
-        Kind::Real => 8,
-        Kind::Date => 8,
-        Kind::Uid(width) => width,
-        _ => 0,
     }
 }

@@ -1,17 +1,17 @@
 -- `by_kind`: what each kind says.
-use mathlib.Core.Path.{ap}
+use mathlib.Core.Path.{sym, _∙_}
 use Prim.Native.Nat.{_+_, _^_, _<_}
 use native.Mathlib.Omega.{arith}
 use mir.Facts.{toZ-ofZ}
 use mir.Syntax.{w64}
 use mir.Val.{SFits}
 use borrow.Author.Needs.{needs}
+use borrow.Author.Tests.{ltb-true, ltb-false}
 use Rattle.number.specs.BeLaws.{Bytes, bytes-of}
 use Rattle.number.specs.PartLaws.{part-lt}
 use Rattle.object.specs.Found.{foundOf}
-use Rattle.object.specs.Kind.{fixedWidth}
 use Rattle.object.specs.Object.{unsignedIn, signedIn, wideIn, shortRealIn, realIn, dateIn, uidIn, byKind}
-use Rattle.object.specs.ObjectLaws.{fixed-there}
+use Rattle.object.specs.ObjectLaws.{fixed-inside, fixed-crossing}
 use Rattle.object.proofs.read.by_kind.Statement.{statement}
 use Rattle.object.proofs.read.by_kind.Tie as tie
 
@@ -33,12 +33,21 @@ enum-told-4 c = search needs
 enum-known-kind : tie.Need-enum-known-kind
 enum-known-kind c = search needs
 
+crosses-requires : tie.Need-crosses-requires
+crosses-requires c κs = search needs
+
+returns : tie.Need-returns
+unfolding byKind foundOf
+returns c =
+    let a = c .before .before .before .before .before .before .args in
+    rw (c .before .before .before .kind .given .1, fixed-crossing (a .file .now) (a .offset) (c .before .before .before .kind .given .0 .0) unsignedIn (ltb-true _ _ (sym (c .before .crosses .ensures) ∙ c .if1 .taken)))
+
 add-be-at : tie.Need-add-be-at
 add-be-at c = search needs
 
 be-at-requires : tie.Need-be-at-requires
 be-at-requires c κs =
-    let w = rw (c .before .kind .given .1) at (c .before .before .before .before .pre) in
+    let w = rw (c .before .before .before .kind .given .1) at (c .before .before .before .before .before .before .pre) in
     (w .1, w .2, omega arith)
 
 integer-requires : tie.Need-integer-requires
@@ -46,6 +55,15 @@ integer-requires c κs = search needs
 
 enum-told-5 : tie.Need-enum-told-5
 enum-told-5 c = search needs
+
+crosses-requires-2 : tie.Need-crosses-requires-2
+crosses-requires-2 c κs = search needs
+
+returns-2 : tie.Need-returns-2
+unfolding byKind foundOf
+returns-2 c =
+    let a = c .before .before .before .before .before .args in
+    rw (c .before .before .enum-told5 .given .1, fixed-crossing (a .file .now) (a .offset) 8 signedIn (ltb-true _ _ (sym (c .before .crosses2 .ensures) ∙ c .if2 .taken)))
 
 add-be-at-2 : tie.Need-add-be-at-2
 add-be-at-2 c = search needs
@@ -62,11 +80,29 @@ integer-requires-2 c κs = search needs
 enum-told-6 : tie.Need-enum-told-6
 enum-told-6 c = search needs
 
+crosses-requires-3 : tie.Need-crosses-requires-3
+crosses-requires-3 c κs = search needs
+
+returns-3 : tie.Need-returns-3
+unfolding byKind foundOf
+returns-3 c =
+    let a = c .before .before .before .before .before .args in
+    rw (c .before .before .enum-told6 .given .1, fixed-crossing (a .file .now) (a .offset) 16 wideIn (ltb-true _ _ (sym (c .before .crosses3 .ensures) ∙ c .if3 .taken)))
+
 wide-at-requires : tie.Need-wide-at-requires
 wide-at-requires c κs = search needs
 
 enum-told-7 : tie.Need-enum-told-7
 enum-told-7 c = search needs
+
+crosses-requires-4 : tie.Need-crosses-requires-4
+crosses-requires-4 c κs = search needs
+
+returns-4 : tie.Need-returns-4
+unfolding byKind foundOf
+returns-4 c =
+    let a = c .before .before .before .before .before .args in
+    rw (c .before .before .enum-told7 .given .1, fixed-crossing (a .file .now) (a .offset) 4 shortRealIn (ltb-true _ _ (sym (c .before .crosses4 .ensures) ∙ c .if4 .taken)))
 
 add-be-at-3 : tie.Need-add-be-at-3
 add-be-at-3 c = search needs
@@ -76,8 +112,8 @@ be-at-requires-3 c κs = search needs
 
 cast-short-real-of : tie.Need-cast-short-real-of
 cast-short-real-of c =
-    let a = c .before .before .before .before .args in
-    let h : c .be-at3 .result < 256 ^ 4 = rw (c .be-at3 .ensures) (part-lt (a .file .now) (a .offset + 1) 4 (omega arith) (bytes (c .before .before .before))) in
+    let a = c .before .before .before .before .before .before .args in
+    let h : c .be-at3 .result < 256 ^ 4 = rw (c .be-at3 .ensures) (part-lt (a .file .now) (a .offset + 1) 4 (omega arith) (bytes (c .before .before .before .before .before))) in
     omega arith
 
 short-real-of-requires : tie.Need-short-real-of-requires
@@ -85,6 +121,15 @@ short-real-of-requires c κs = search needs
 
 enum-told-8 : tie.Need-enum-told-8
 enum-told-8 c = search needs
+
+crosses-requires-5 : tie.Need-crosses-requires-5
+crosses-requires-5 c κs = search needs
+
+returns-5 : tie.Need-returns-5
+unfolding byKind foundOf
+returns-5 c =
+    let a = c .before .before .before .before .before .args in
+    rw (c .before .before .enum-told8 .given .1, fixed-crossing (a .file .now) (a .offset) 8 realIn (ltb-true _ _ (sym (c .before .crosses5 .ensures) ∙ c .if5 .taken)))
 
 add-be-at-4 : tie.Need-add-be-at-4
 add-be-at-4 c = search needs
@@ -97,6 +142,15 @@ real-of-requires c κs = search needs
 
 enum-told-9 : tie.Need-enum-told-9
 enum-told-9 c = search needs
+
+crosses-requires-6 : tie.Need-crosses-requires-6
+crosses-requires-6 c κs = search needs
+
+returns-6 : tie.Need-returns-6
+unfolding byKind foundOf
+returns-6 c =
+    let a = c .before .before .before .before .before .args in
+    rw (c .before .before .enum-told9 .given .1, fixed-crossing (a .file .now) (a .offset) 8 dateIn (ltb-true _ _ (sym (c .before .crosses6 .ensures) ∙ c .if6 .taken)))
 
 add-be-at-5 : tie.Need-add-be-at-5
 add-be-at-5 c = search needs
@@ -128,12 +182,21 @@ utf16-at-requires c κs = search needs
 enum-known-kind-5 : tie.Need-enum-known-kind-5
 enum-known-kind-5 c = search needs
 
+crosses-requires-7 : tie.Need-crosses-requires-7
+crosses-requires-7 c κs = search needs
+
+returns-7 : tie.Need-returns-7
+unfolding byKind foundOf
+returns-7 c =
+    let a = c .before .before .before .before .before .before .args in
+    rw (c .before .before .before .kind5 .given .1, fixed-crossing (a .file .now) (a .offset) (c .before .before .before .kind5 .given .0 .0) uidIn (ltb-true _ _ (sym (c .before .crosses7 .ensures) ∙ c .if7 .taken)))
+
 add-be-at-6 : tie.Need-add-be-at-6
 add-be-at-6 c = search needs
 
 be-at-requires-6 : tie.Need-be-at-requires-6
 be-at-requires-6 c κs =
-    let w = rw (c .before .kind5 .given .1) at (c .before .before .before .before .pre) in
+    let w = rw (c .before .before .before .kind5 .given .1) at (c .before .before .before .before .before .before .pre) in
     (w .1, w .2, omega arith)
 
 enum-known-kind-6 : tie.Need-enum-known-kind-6
@@ -151,88 +214,88 @@ dictionary-at-requires c κs = search needs
 enum-known-kind-8 : tie.Need-enum-known-kind-8
 enum-known-kind-8 c = search needs
 
-returns : tie.Need-returns
-unfolding byKind foundOf
-returns c = rw (c .enum-told .given .1)
-
-returns-2 : tie.Need-returns-2
-unfolding byKind foundOf
-returns-2 c = rw (c .enum-told2 .given .1)
-
-returns-3 : tie.Need-returns-3
-unfolding byKind foundOf
-returns-3 c = rw (c .enum-told3 .given .1)
-
-returns-4 : tie.Need-returns-4
-unfolding byKind foundOf
-returns-4 c = rw (c .enum-told4 .given .1)
-
-returns-5 : tie.Need-returns-5
-unfolding byKind fixedWidth
-returns-5 c =
-    let s = c .before .before .before .before .before .before in
-    rw (c .before .before .before .kind .given .1, fixed-there (s .args .file .now) (s .args .offset) (c .before .before .before .kind .given .0 .0) unsignedIn (s .args .kind) (s .pre .0) (ap fixedWidth (c .before .before .before .kind .given .1)), c .integer .ensures, c .before .be-at .ensures)
-
-returns-6 : tie.Need-returns-6
-unfolding byKind fixedWidth
-returns-6 c =
-    let s = c .before .before .before .before .before .before in
-    let f : SFits w64 (c .before .signed-of .result) = search needs in
-    rw (c .before .before .before .enum-told5 .given .1, fixed-there (s .args .file .now) (s .args .offset) 8 signedIn (s .args .kind) (s .pre .0) (ap fixedWidth (c .before .before .before .enum-told5 .given .1)), c .integer2 .ensures, toZ-ofZ f, c .before .signed-of .ensures, c .before .before .be-at2 .ensures)
-
-returns-7 : tie.Need-returns-7
-unfolding byKind fixedWidth
-returns-7 c =
-    let s = c .before .before .before .before in
-    rw (c .before .enum-told6 .given .1, fixed-there (s .args .file .now) (s .args .offset) 16 wideIn (s .args .kind) (s .pre .0) (ap fixedWidth (c .before .enum-told6 .given .1)), c .wide-at .ensures)
-
 returns-8 : tie.Need-returns-8
-unfolding byKind fixedWidth foundOf
-returns-8 c =
-    let s = c .before .before .before .before .before in
-    rw (c .before .before .enum-told7 .given .1, fixed-there (s .args .file .now) (s .args .offset) 4 shortRealIn (s .args .kind) (s .pre .0) (ap fixedWidth (c .before .before .enum-told7 .given .1)), c .short-real-of .ensures, c .before .be-at3 .ensures)
+unfolding byKind foundOf
+returns-8 c = rw (c .enum-told .given .1)
 
 returns-9 : tie.Need-returns-9
-unfolding byKind fixedWidth foundOf
-returns-9 c =
-    let s = c .before .before .before .before .before in
-    rw (c .before .before .enum-told8 .given .1, fixed-there (s .args .file .now) (s .args .offset) 8 realIn (s .args .kind) (s .pre .0) (ap fixedWidth (c .before .before .enum-told8 .given .1)), c .real-of .ensures, c .before .be-at4 .ensures)
+unfolding byKind foundOf
+returns-9 c = rw (c .enum-told2 .given .1)
 
 returns-10 : tie.Need-returns-10
-unfolding byKind fixedWidth
-returns-10 c =
-    let s = c .before .before .before .before .before in
-    rw (c .before .before .enum-told9 .given .1, fixed-there (s .args .file .now) (s .args .offset) 8 dateIn (s .args .kind) (s .pre .0) (ap fixedWidth (c .before .before .enum-told9 .given .1)), c .date .ensures, c .before .be-at5 .ensures)
+unfolding byKind foundOf
+returns-10 c = rw (c .enum-told3 .given .1)
 
 returns-11 : tie.Need-returns-11
-unfolding byKind
-returns-11 c = rw (c .before .before .kind2 .given .1, c .data-at .ensures)
+unfolding byKind foundOf
+returns-11 c = rw (c .enum-told4 .given .1)
 
 returns-12 : tie.Need-returns-12
 unfolding byKind
-returns-12 c = rw (c .before .before .kind3 .given .1, c .utf8-at .ensures)
+returns-12 c =
+    let a = c .before .before .before .before .before .before .before .before .args in
+    rw (c .before .before .before .before .before .kind .given .1, fixed-inside (a .file .now) (a .offset) (c .before .before .before .before .before .kind .given .0 .0) unsignedIn (ltb-false _ _ (sym (c .before .before .before .crosses .ensures) ∙ c .before .before .if1 .left)), c .integer .ensures, c .before .be-at .ensures)
 
 returns-13 : tie.Need-returns-13
 unfolding byKind
-returns-13 c = rw (c .before .before .kind4 .given .1, c .utf16-at .ensures)
+returns-13 c =
+    let a = c .before .before .before .before .before .before .before .before .args in
+    let f : SFits w64 (c .before .signed-of .result) = search needs in
+    rw (c .before .before .before .before .before .enum-told5 .given .1, fixed-inside (a .file .now) (a .offset) 8 signedIn (ltb-false _ _ (sym (c .before .before .before .before .crosses2 .ensures) ∙ c .before .before .before .if2 .left)), c .integer2 .ensures, toZ-ofZ f, c .before .signed-of .ensures, c .before .before .be-at2 .ensures)
 
 returns-14 : tie.Need-returns-14
-unfolding byKind fixedWidth foundOf
+unfolding byKind
 returns-14 c =
-    let s = c .before .before .before .before .before in
-    rw (c .before .before .kind5 .given .1, fixed-there (s .args .file .now) (s .args .offset) (c .before .before .kind5 .given .0 .0) uidIn (s .args .kind) (s .pre .0) (ap fixedWidth (c .before .before .kind5 .given .1)), c .be-at6 .ensures)
+    let a = c .before .before .before .before .before .before .args in
+    rw (c .before .before .before .enum-told6 .given .1, fixed-inside (a .file .now) (a .offset) 16 wideIn (ltb-false _ _ (sym (c .before .before .crosses3 .ensures) ∙ c .before .if3 .left)), c .wide-at .ensures)
 
 returns-15 : tie.Need-returns-15
-unfolding byKind
-returns-15 c = rw (c .before .before .kind6 .given .1, c .array-at .ensures)
+unfolding byKind foundOf
+returns-15 c =
+    let a = c .before .before .before .before .before .before .before .args in
+    rw (c .before .before .before .before .enum-told7 .given .1, fixed-inside (a .file .now) (a .offset) 4 shortRealIn (ltb-false _ _ (sym (c .before .before .before .crosses4 .ensures) ∙ c .before .before .if4 .left)), c .short-real-of .ensures, c .before .be-at3 .ensures)
 
 returns-16 : tie.Need-returns-16
-unfolding byKind
-returns-16 c = rw (c .before .before .kind7 .given .1, c .dictionary-at .ensures)
+unfolding byKind foundOf
+returns-16 c =
+    let a = c .before .before .before .before .before .before .before .args in
+    rw (c .before .before .before .before .enum-told8 .given .1, fixed-inside (a .file .now) (a .offset) 8 realIn (ltb-false _ _ (sym (c .before .before .before .crosses5 .ensures) ∙ c .before .before .if5 .left)), c .real-of .ensures, c .before .be-at4 .ensures)
 
 returns-17 : tie.Need-returns-17
+unfolding byKind
+returns-17 c =
+    let a = c .before .before .before .before .before .before .before .args in
+    rw (c .before .before .before .before .enum-told9 .given .1, fixed-inside (a .file .now) (a .offset) 8 dateIn (ltb-false _ _ (sym (c .before .before .before .crosses6 .ensures) ∙ c .before .before .if6 .left)), c .date .ensures, c .before .be-at5 .ensures)
+
+returns-18 : tie.Need-returns-18
+unfolding byKind
+returns-18 c = rw (c .before .before .kind2 .given .1, c .data-at .ensures)
+
+returns-19 : tie.Need-returns-19
+unfolding byKind
+returns-19 c = rw (c .before .before .kind3 .given .1, c .utf8-at .ensures)
+
+returns-20 : tie.Need-returns-20
+unfolding byKind
+returns-20 c = rw (c .before .before .kind4 .given .1, c .utf16-at .ensures)
+
+returns-21 : tie.Need-returns-21
 unfolding byKind foundOf
-returns-17 c = rw (c .before .kind8 .given .1)
+returns-21 c =
+    let a = c .before .before .before .before .before .before .before .args in
+    rw (c .before .before .before .before .kind5 .given .1, fixed-inside (a .file .now) (a .offset) (c .before .before .before .before .kind5 .given .0 .0) uidIn (ltb-false _ _ (sym (c .before .before .crosses7 .ensures) ∙ c .before .if7 .left)), c .be-at6 .ensures)
+
+returns-22 : tie.Need-returns-22
+unfolding byKind
+returns-22 c = rw (c .before .before .kind6 .given .1, c .array-at .ensures)
+
+returns-23 : tie.Need-returns-23
+unfolding byKind
+returns-23 c = rw (c .before .before .kind7 .given .1, c .dictionary-at .ensures)
+
+returns-24 : tie.Need-returns-24
+unfolding byKind foundOf
+returns-24 c = rw (c .before .kind8 .given .1)
 
 pub by-kind-spec : {M : Type 1} → statement M
 by-kind-spec =
@@ -243,26 +306,38 @@ by-kind-spec =
     enum-told-3
     enum-told-4
     enum-known-kind
+    crosses-requires
+    returns
     add-be-at
     be-at-requires
     integer-requires
     enum-told-5
+    crosses-requires-2
+    returns-2
     add-be-at-2
     be-at-requires-2
     signed-of-requires
     integer-requires-2
     enum-told-6
+    crosses-requires-3
+    returns-3
     wide-at-requires
     enum-told-7
+    crosses-requires-4
+    returns-4
     add-be-at-3
     be-at-requires-3
     cast-short-real-of
     short-real-of-requires
     enum-told-8
+    crosses-requires-5
+    returns-5
     add-be-at-4
     be-at-requires-4
     real-of-requires
     enum-told-9
+    crosses-requires-6
+    returns-6
     add-be-at-5
     be-at-requires-5
     date-requires
@@ -273,6 +348,8 @@ by-kind-spec =
     enum-known-kind-4
     utf16-at-requires
     enum-known-kind-5
+    crosses-requires-7
+    returns-7
     add-be-at-6
     be-at-requires-6
     enum-known-kind-6
@@ -280,13 +357,6 @@ by-kind-spec =
     enum-known-kind-7
     dictionary-at-requires
     enum-known-kind-8
-    returns
-    returns-2
-    returns-3
-    returns-4
-    returns-5
-    returns-6
-    returns-7
     returns-8
     returns-9
     returns-10
@@ -296,4 +366,11 @@ by-kind-spec =
     returns-14
     returns-15
     returns-16
-    returns-17)
+    returns-17
+    returns-18
+    returns-19
+    returns-20
+    returns-21
+    returns-22
+    returns-23
+    returns-24)
