@@ -8,14 +8,12 @@ use native.Mathlib.Omega.{arith}
 use borrow.Author.Tests.{le-leb, lt-ltb, le-ltb, ltb-true, ltb-false}
 use lib.Dec.{ltb}
 use lib.ListN.{length, take, drop}
-use lib.Seq.{take-take}
 use Rattle.number.specs.Be.{be}
-use Rattle.number.specs.BeLaws.{Bytes}
 use Rattle.number.specs.Read.{numberOf}
 use Rattle.number.specs.declared.be.Number.{Number}
 use Rattle.number.specs.declared.be.Number.the-variants.{Of, NoNumber}
 use Rattle.number.specs.Part.{part}
-use Rattle.number.specs.PartLaws.{number-part, be-shifted}
+use Rattle.number.specs.PartLaws.{number-part}
 use Rattle.number.specs.Width.{bytesIn}
 use Rattle.number.specs.declared.width.Width.{Width}
 use Rattle.layout.specs.Layout.{numberAt}
@@ -46,12 +44,6 @@ eight-left end at h = go (ltb end (at + 8)) refl
     go false e =
         let l : at + 8 ≤ end = ltb-false end (at + 8) e in
         le-ltb (end - 8) at (omega arith)
-
--- eight bytes that are read, the rest behind a number of fewer dropped
-pub shifted : (s : List ℕ) (at w : ℕ) → Bytes s → w ≤ 8 → at + 8 ≤ length s → be (take 8 (take (at + 8 - at) (drop at s))) / 2 ^ (64 - 8 * w) ≡ be (part s at w)
-shifted s at w b few inside =
-    let q : at + 8 - at ≡ 8 = omega arith in
-    rw (q, take-take 8 8 (drop at s) (omega arith)) (be-shifted s at w b few inside)
 
 -- an object's number, and a place among references, times a width fit
 pub scaled : (n w : ℕ) → n < 2 ^ 32 → w ≤ 8 → n * w < 2 ^ 36

@@ -50,12 +50,19 @@ impl Standing {
     };
 }
 
-// The number of a width that stands at an offset. Eight bytes are read at once, whatever the width, and the rest is dropped: some 8
-// instructions a number less than byte by byte.
+// The number of a width that stands at an offset.
 pub fn number_at(file: &[u8], width: Width, at: usize) -> Entry
     ensures { λ r. ⌜ r ≡ numberAt (now (file .entry)) width at ⌝ }
 {
-    let bytes = bytes_in(width);
+    read_at(file, bytes_in(width), at)
+}
+
+// The number of so many bytes. Eight are read at once, and the rest is dropped: some 8 instructions a number less than byte by byte. It
+// takes the bytes and not the width, so that a place among numbers and the number there go by one choice of them: some 13 less.
+fn read_at(file: &[u8], bytes: usize, at: usize) -> Entry
+    requires { ⌜ (0 < bytes) × (bytes ≤ 8) ⌝ }
+    ensures { λ r. ⌜ r ≡ cond (leb (at + bytes) (length (now (file .entry)))) (Of (be (part (now (file .entry)) at bytes))) Outside ⌝ }
+{
     if lacks_eight(file.len(), at) {
         return number_near_end(file, bytes, at);
     }
@@ -97,11 +104,8 @@ pub(crate) fn entry_at(file: &[u8], layout: Layout, object: u32) -> Entry
     ensures { λ r. ⌜ r ≡ entryAt (now (file .entry)) layout object ⌝ }
 {
     let offsets = layout.offsets;
-    number_at(
-        file,
-        offsets,
-        layout.table as usize + object as usize * bytes_in(offsets),
-    )
+    let bytes = bytes_in(offsets);
+    read_at(file, bytes, layout.table as usize + object as usize * bytes)
 }
 
 // What is due in an open container: it is looked at again where its entry says that it stands.
@@ -194,7 +198,8 @@ fn due_from(
     if file.len() < start {
         return Due::Wrong;
     }
-    let Entry::Of(object) = number_at(file, refs, start + place as usize * bytes_in(refs)) else {
+    let bytes = bytes_in(refs);
+    let Entry::Of(object) = read_at(file, bytes, start + place as usize * bytes) else {
         return Due::Wrong;
     };
     Due::Member(object)

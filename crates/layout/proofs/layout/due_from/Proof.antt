@@ -5,7 +5,7 @@ use native.Mathlib.Omega.{arith}
 use borrow.Author.Tests.{eq-eqb, ne-eqb, lt-ltb, le-ltb, lt-leb}
 use lib.ListN.{length}
 use Rattle.number.specs.Width.{bytesIn}
-use Rattle.number.specs.WidthLaws.{bytesIn-le}
+use Rattle.number.specs.WidthLaws.{bytesIn-pos, bytesIn-le}
 use Rattle.layout.specs.Layout.{numberAt, dueAt, given}
 use Rattle.layout.proofs.Numbers.{placed}
 use borrow.Author.Needs.{needs}
@@ -40,14 +40,14 @@ fits c =
     let a = c .before .before .before .before .before .args in
     placed (a .place) (c .bytes-in .result) (c .before .before .before .before .before .pre) (omega (arith, c .bytes-in .ensures, bytesIn-le (a .refs)))
 
-mul-number-at : tie.Need-mul-number-at
-mul-number-at c = omega (arith, fits c)
+mul-read-at : tie.Need-mul-read-at
+mul-read-at c = omega (arith, fits c)
 
-add-number-at : tie.Need-add-number-at
-add-number-at c = omega (arith, fits c)
+add-read-at : tie.Need-add-read-at
+add-read-at c = omega (arith, fits c)
 
-number-at-requires : tie.Need-number-at-requires
-number-at-requires c κs = search needs
+read-at-requires : tie.Need-read-at-requires
+read-at-requires c κs = rw (c .bytes-in .ensures) (bytesIn-pos _, bytesIn-le _)
 
 enum-known-object : tie.Need-enum-known-object
 enum-known-object c = search needs
@@ -56,18 +56,18 @@ enum-told : tie.Need-enum-told
 enum-told c = search needs
 
 returns-4 : tie.Need-returns-4
-unfolding dueAt given
+unfolding dueAt given numberAt
 returns-4 c =
     let a = c .before .before .before .before .before .before .before .before .args in
     let h : a .position < a .references = omega arith in
-    rw (ne-eqb _ _ (c .before .before .before .before .before .before .if1 .left), lt-ltb _ _ h, ← c .before .before .before .bytes-in .ensures, sym (c .before .before .number-at .ensures) ∙ c .enum-told .given .1)
+    rw (ne-eqb _ _ (c .before .before .before .before .before .before .if1 .left), lt-ltb _ _ h, ← c .before .before .before .bytes-in .ensures, sym (c .before .before .read-at .ensures) ∙ c .enum-told .given .1)
 
 returns-5 : tie.Need-returns-5
-unfolding dueAt given
+unfolding dueAt given numberAt
 returns-5 c =
     let a = c .before .before .before .before .before .before .before .before .before .args in
     let h : a .position < a .references = omega arith in
-    rw (ne-eqb _ _ (c .before .before .before .before .before .before .before .if1 .left), lt-ltb _ _ h, ← c .before .before .before .before .bytes-in .ensures, sym (c .before .before .before .number-at .ensures) ∙ c .before .object .given .1)
+    rw (ne-eqb _ _ (c .before .before .before .before .before .before .before .if1 .left), lt-ltb _ _ h, ← c .before .before .before .before .bytes-in .ensures, sym (c .before .before .before .read-at .ensures) ∙ c .before .object .given .1)
 
 pub due-from-spec : {M : Type 1} → statement M
 due-from-spec =
@@ -77,9 +77,9 @@ due-from-spec =
     returns-2
     returns-3
     bytes-in-requires
-    mul-number-at
-    add-number-at
-    number-at-requires
+    mul-read-at
+    add-read-at
+    read-at-requires
     enum-known-object
     enum-told
     returns-4
