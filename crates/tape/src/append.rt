@@ -98,7 +98,7 @@ fn put_start(tape: &mut [u8], held: usize, kind: u8, length: Length) -> Appended
     }
 }
 
-fn put_boolean(tape: &mut [u8], held: usize, value: bool) -> Appended
+pub fn put_boolean(tape: &mut [u8], held: usize, value: bool) -> Appended
     ensures { λ r. ⌜ said r ≡ putOf (now (tape .entry)) held (bytesFor (boolean value)) ⌝ }
     ensures { λ _. ⌜ now (tape .exit) ≡ putTo (now (tape .entry)) held (bytesFor (boolean value)) ⌝ }
 {
@@ -110,7 +110,7 @@ fn put_boolean(tape: &mut [u8], held: usize, value: bool) -> Appended
 }
 
 // A negative integer n stands as -1 - n.
-fn put_integer(tape: &mut [u8], held: usize, value: Integer) -> Appended
+pub fn put_integer(tape: &mut [u8], held: usize, value: Integer) -> Appended
     ensures { λ r. ⌜ said r ≡ putOf (now (tape .entry)) held (bytesFor (integer (valueOf value))) ⌝ }
     ensures { λ _. ⌜ now (tape .exit) ≡ putTo (now (tape .entry)) held (bytesFor (integer (valueOf value))) ⌝ }
 {
@@ -161,7 +161,7 @@ fn lacks_number(end: usize, at: usize, n: u64) -> bool
 }
 
 // A kind and 8 bytes, the high one first.
-fn put_eight(tape: &mut [u8], held: usize, kind: u8, bits: u64) -> Appended
+pub fn put_eight(tape: &mut [u8], held: usize, kind: u8, bits: u64) -> Appended
     ensures { λ r. ⌜ said r ≡ putOf (now (tape .entry)) held (kind ∷ bytesOf 8 bits) ⌝ }
     ensures { λ _. ⌜ now (tape .exit) ≡ putTo (now (tape .entry)) held (kind ∷ bytesOf 8 bits) ⌝ }
 {

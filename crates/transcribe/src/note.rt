@@ -1,11 +1,15 @@
 // One event put on the tape.
 use event::Event;
+use event::real::float_bits;
 use layout::lookup::Asked;
 use layout::lookup::Shape;
 use layout::refusal::Refusal;
 use tape::append::Appended;
 use tape::append::append_unchecked;
+use tape::append::put_boolean;
 use tape::append::put_bytes_unchecked;
+use tape::append::put_eight;
+use tape::append::put_integer;
 use tape::append::put_kind;
 use tape::append::put_number;
 use unicode::changed::Changed;
@@ -22,7 +26,7 @@ ghost use Rattle.layout.specs.Bytes.{hasBytes};
 ghost use Rattle.layout.specs.Looked.{startOf};
 ghost use Rattle.layout.specs.Said.{shapeSaid};
 ghost use Rattle.reader.specs.Machine.{recordOf};
-ghost use Rattle.tape.specs.Append.{said, appendOf, appendTo};
+ghost use Rattle.tape.specs.Append.{said, putOf, putTo, appendOf, appendTo};
 ghost use Rattle.tape.specs.Code.{bytesFor};
 ghost use Rattle.tape.specs.Seven.{seven};
 ghost use Rattle.transcribe.specs.Note.{fromTape, noting, noteOf};
@@ -121,7 +125,24 @@ fn note_plain(tape: &mut [u8], held: usize, event: Event) -> NoteAnswer
     ensures { λ r. ⌜ noteSaid r ≡ fromTape (appendOf (now (tape .entry)) held (meaningOf event [])) ⌝ }
     ensures { λ _. ⌜ now (tape .exit) ≡ appendTo (now (tape .entry)) held (meaningOf event []) ⌝ }
 {
-    noted(append_unchecked(tape, held, event, b""))
+    noted(put_plain(tape, held, event))
+}
+
+// The same by the function of its kind: some 40 instructions a number less than by `append_unchecked`, which has other callers and so
+// stays a call. No object is the start or end of a container or data or text here.
+fn put_plain(tape: &mut [u8], held: usize, event: Event) -> Appended
+    ensures { λ r. ⌜ said r ≡ putOf (now (tape .entry)) held (bytesFor (meaningOf event [])) ⌝ }
+    ensures { λ _. ⌜ now (tape .exit) ≡ putTo (now (tape .entry)) held (bytesFor (meaningOf event [])) ⌝ }
+{
+    match event {
+        Event::Boolean(value) => put_boolean(tape, held, value),
+        Event::Date(bits) => put_eight(tape, held, 0x06, bits),
+        Event::Integer(value) => put_integer(tape, held, value),
+        Event::Real(value) => put_eight(tape, held, 0x05, float_bits(value)),
+        Event::Nan(bits) => put_eight(tape, held, 0x05, bits),
+        Event::Uid(n) => put_number(tape, held, 0x07, n),
+        _ => append_unchecked(tape, held, event, b""),
+    }
 }
 
 // What the tape answers is the note's answer.

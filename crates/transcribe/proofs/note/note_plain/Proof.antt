@@ -9,11 +9,8 @@ use Rattle.tape.specs.AppendLaws.{put-event}
 use Rattle.transcribe.proofs.note.note_plain.Statement.{statement}
 use Rattle.transcribe.proofs.note.note_plain.Tie as tie
 
-slice-aggregate-append-unchecked : tie.Need-slice-aggregate-append-unchecked
-slice-aggregate-append-unchecked c = search needs
-
-append-unchecked-requires : tie.Need-append-unchecked-requires
-append-unchecked-requires c κs = search needs
+put-plain-requires : tie.Need-put-plain-requires
+put-plain-requires c κs = search needs
 
 noted-requires : tie.Need-noted-requires
 noted-requires c κs = search needs
@@ -23,13 +20,13 @@ same-length c = search needs
 
 returns : tie.Need-returns
 returns c =
-    let a = c .before .before .before .before .before .before .before .args in
-    let p = c .before .before .before .append-unchecked in
-    let t = put-event (a .tape .now) (a .held) (meaningOf (a .event) []) (bare-allowed (a .event) (c .before .before .before .before .before .before .before .pre)) (refl, refl) in (
+    let a = c .before .before .before .before .before .before .args in
+    let p = c .before .before .before .put-plain in
+    let t = put-event (a .tape .now) (a .held) (meaningOf (a .event) []) (bare-allowed (a .event) (c .before .before .before .before .before .before .pre)) (refl, refl) in (
       c .noted .ensures ∙ ap fromTape (p .ensures .0 ∙ t .0),
       p .ensures .1 ∙ t .1,
     )
 
 pub note-plain-spec : {M : Type 1} → statement M
 note-plain-spec =
-    tie.close (tie.spec slice-aggregate-append-unchecked append-unchecked-requires noted-requires same-length returns)
+    tie.close (tie.spec put-plain-requires noted-requires same-length returns)
