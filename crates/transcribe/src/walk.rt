@@ -28,7 +28,7 @@ ghost use Rattle.reader.specs.Next.{laidOut};
 ghost use Rattle.reader.specs.State.{maxLength};
 ghost use Rattle.transcribe.specs.Run.{run, refused as refusedEnd, endOf, finishedOf, onward};
 ghost use Rattle.transcribe.specs.Said.{failSaid, endSaid};
-ghost use Rattle.transcribe.specs.Walk.{dueNow};
+ghost use Rattle.transcribe.specs.Walk.{Below, dueNow};
 
 // The events from the root on. The open containers stay in this function's own memory and change there: a reader that goes by value is
 // copied whole at every call, and that would be half of the work.
@@ -46,6 +46,9 @@ pub(crate) fn walk(
     let mut frames = [Frame::NONE; Reader::MAX_OPEN];
     // their numbers once more, to be lent and searched: a slice of frames can't be lent, and a copy of them would cost 100 instructions
     let mut numbers = [0u32; Reader::MAX_OPEN];
+    // above each of these; a number at or above it need not be searched for. The numbers mostly grow on the way inwards, so at 64 levels
+    // that takes some 60 instructions less
+    let mut above: u64 = 0;
     let mut depth: usize = 0;
     let mut place = layout.table as u64;
     let mut held: usize = 0;
@@ -102,7 +105,7 @@ pub(crate) fn walk(
                 },
                 Look::Container(shape, length, offset) => {
                     let number = object as u32;
-                    if is_among(&numbers[..depth], number) {
+                    if is_known(&numbers[..depth], above, number) {
                         return refused(Refusal::RecursiveObject, offset, held);
                     }
                     if Reader::MAX_OPEN <= depth {
@@ -126,6 +129,7 @@ pub(crate) fn walk(
                                 offset,
                                 container: container_at(file, offset as usize),
                             };
+                            above = higher(above, object + 1);
                             place = offset;
                             held = n;
                             continue;
@@ -139,6 +143,24 @@ pub(crate) fn walk(
         ending: Ending::Stopped,
         held,
     }
+}
+
+// Whether a number is among others, which are all below a bound.
+fn is_known(numbers: &[u32], above: u64, number: u32) -> bool
+    requires { ⌜ Below above (now numbers) ⌝ }
+    ensures { λ r. ⌜ r ≡ among (now (numbers .entry)) number ⌝ }
+{
+    if above <= number as u64 {
+        return false;
+    }
+    is_among(numbers, number)
+}
+
+// A number at or above both.
+fn higher(a: u64, b: u64) -> u64
+    ensures { λ r. ⌜ (a ≤ r) × (b ≤ r) ⌝ }
+{
+    if a < b { b } else { a }
 }
 
 // Whether a number is among others. None ends the loop early, so that the compiler compares many at once: at 64 levels that takes some 60

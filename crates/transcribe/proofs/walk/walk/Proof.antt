@@ -3,9 +3,10 @@ use mathlib.Core.Path.{_≡_, refl, sym, ap, _∙_}
 use Prim.Native.Nat.{_≤_}
 use native.Mathlib.Omega.{arith}
 use borrow.Author.Needs.{needs}
-use lib.ListN.{length, length-set, replicate}
+use lib.ListN.{length, length-set, replicate, take}
 use lib.Seq.{length-take-le}
 use lib.Dec.{lit≤}
+use Rattle.number.specs.Among.{among}
 use Rattle.layout.specs.LookLaws.{placed-scalar, placed-container}
 use Rattle.layout.specs.Looked.{scalar, container}
 use Rattle.layout.specs.Said.{shapeSaid, numberOf, valuesOf, lookSaid, lookBytes}
@@ -17,16 +18,17 @@ use Rattle.reader.specs.State.{maxOpen}
 use Rattle.reader.specs.Next.{laidOut}
 use Rattle.transcribe.specs.Said.{noteSaid, endSaid}
 use Rattle.transcribe.specs.Run.{onward}
-use Rattle.transcribe.proofs.Listed.{Listed}
+use Rattle.transcribe.specs.Walk.{Below}
+use Rattle.transcribe.proofs.Listed.{Listed, close-below, enter-below}
 use Rattle.transcribe.proofs.Walking.{Stands, leftOf, due, looked, short-number, short-length, Turn, call-root, is-wrong, close-fails, close-finishes, close-goes, is-refused, notable, counts, scalar-fails, scalar-finishes, scalar-goes, scalar-stands, is-open-now, is-deep, enter-fails, enter-goes, enter-stands, still-long, sought, close-lists, scalar-lists, enter-lists}
 use Rattle.transcribe.proofs.walk.walk.Statement.{statement}
 use Rattle.transcribe.proofs.walk.walk.Tie as tie
 
 abbrev Inv-loop : tie.InvT-loop
-Inv-loop file scratch₀ tape₀ budget layout root frames₀ numbers₀ depth₀ place₀ held₀ left₀ standing₀ scratch tape frames numbers depth place held left standing = (length scratch ≡ length scratch₀) × (length tape ≡ length tape₀) × (depth ≤ maxOpen) × (depth ≡ 0 → frames ≡ replicate maxOpen noFrame) × (leftOf file layout root left scratch tape held place depth frames ≡ onward budget file scratch₀ tape₀ 0 (arrive (laidOut file layout) root (lookOf file layout root))) × (length frames ≡ maxOpen) × Stands file layout standing depth frames × (length numbers ≡ maxOpen) × Listed depth frames numbers
+Inv-loop file scratch₀ tape₀ budget layout root frames₀ numbers₀ above₀ depth₀ place₀ held₀ left₀ standing₀ scratch tape frames numbers above depth place held left standing = (length scratch ≡ length scratch₀) × (length tape ≡ length tape₀) × (depth ≤ maxOpen) × (depth ≡ 0 → frames ≡ replicate maxOpen noFrame) × (leftOf file layout root left scratch tape held place depth frames ≡ onward budget file scratch₀ tape₀ 0 (arrive (laidOut file layout) root (lookOf file layout root))) × (length frames ≡ maxOpen) × Stands file layout standing depth frames × (length numbers ≡ maxOpen) × Listed depth frames numbers × Below above (take depth numbers)
 
 abbrev μ-loop : tie.MeasureT-loop
-μ-loop file scratch₀ tape₀ budget layout root frames₀ numbers₀ depth₀ place₀ held₀ left₀ standing₀ scratch tape frames numbers depth place held left standing = left
+μ-loop file scratch₀ tape₀ budget layout root frames₀ numbers₀ above₀ depth₀ place₀ held₀ left₀ standing₀ scratch tape frames numbers above depth place held left standing = left
 
 -- the turn, as it stands once what is due is known
 abbrev turn : tie.After-due-now Inv-loop μ-loop → Turn
@@ -80,7 +82,8 @@ cast-place : tie.Need-cast-place Inv-loop μ-loop
 cast-place c = search needs
 
 loop-holds : tie.Need-loop-holds Inv-loop μ-loop
-loop-holds c = (refl, refl, lit≤ tt, λ e. refl, ap (onward (c .before .before .before .before .args .budget) (c .before .before .before .before .args .file .now) (c .before .before .before .before .args .scratch .now) (c .before .before .before .before .args .tape .now) 0) (call-root (c .before .before .before .before .args .file .now) (c .before .before .before .before .args .layout) (c .before .before .before .before .args .root)), refl, λ e. absurd (e refl), refl, refl)
+unfolding among
+loop-holds c = (refl, refl, lit≤ tt, λ e. refl, ap (onward (c .before .before .before .before .args .budget) (c .before .before .before .before .args .file .now) (c .before .before .before .before .args .scratch .now) (c .before .before .before .before .args .tape .now) 0) (call-root (c .before .before .before .before .args .file .now) (c .before .before .before .before .args .layout) (c .before .before .before .before .args .root)), refl, λ e. absurd (e refl), refl, refl, λ n h. refl)
 
 sub-left : tie.Need-sub-left Inv-loop μ-loop
 sub-left c = search needs
@@ -185,6 +188,7 @@ loop-again c =
       λ e. c .stands-at .ensures,
       c .before .before .before .before .before .before .before .before .before .before .before .before .before .before .before .loop .inv .7,
       close-lists x,
+      close-below (x .depth) (x .top) _ (x .numbers) (omega (arith, x .at)) (c .before .before .before .before .before .before .before .before .before .before .before .before .before .before .before .loop .inv .9),
     )
 
 enum-known-object : tie.Need-enum-known-object Inv-loop μ-loop
@@ -278,6 +282,7 @@ loop-again-2 c = (
   scalar-stands (turn (c .before .before .before .before .before .before .before .before .before .before .before .before .before .before .before .before .before .before .before)) _ (due-member (c .before .before .before .before .before .before .before .before .before .before .before .before .before .before .before .before .before)) _ _ (found-scalar (c .before .before .before .before .before .before .before .before .before .before .before .before .before)) _ _ _ (c .before .before .before .before .before .before .before .before .before .note .ensures),
   c .before .before .before .before .before .before .before .before .before .before .before .before .before .before .before .before .before .before .before .before .before .before .before .loop .inv .7,
   scalar-lists (turn (c .before .before .before .before .before .before .before .before .before .before .before .before .before .before .before .before .before .before .before)),
+  c .before .before .before .before .before .before .before .before .before .before .before .before .before .before .before .before .before .before .before .before .before .before .before .loop .inv .9,
 )
 
 enum-known-shape : tie.Need-enum-known-shape Inv-loop μ-loop
@@ -289,13 +294,13 @@ cast-number c = omega (arith, short-number (turn (c .before .before .before .bef
 array-share-prefix-numbers : tie.Need-array-share-prefix-numbers Inv-loop μ-loop
 array-share-prefix-numbers c = omega (arith, c .before .before .before .before .before .before .before .before .before .before .before .loop .inv .2, c .before .before .before .before .before .before .before .before .before .before .before .loop .inv .7)
 
-slice-aggregate-is-among : tie.Need-slice-aggregate-is-among Inv-loop μ-loop
-slice-aggregate-is-among c =
+slice-aggregate-is-known : tie.Need-slice-aggregate-is-known Inv-loop μ-loop
+slice-aggregate-is-known c =
     let l = c .before .before .before .before .before .before .before .before .before .before .before .before .loop in
     sym (length-take-le (l .depth) (l .numbers) (omega (arith, l .inv .2, l .inv .7)))
 
-is-among-requires : tie.Need-is-among-requires Inv-loop μ-loop
-is-among-requires c κs = search needs
+is-known-requires : tie.Need-is-known-requires Inv-loop μ-loop
+is-known-requires c κs = c .before .before .before .before .before .before .before .before .before .before .before .before .loop .inv .9
 
 refused-requires-3 : tie.Need-refused-requires-3 Inv-loop μ-loop
 refused-requires-3 c κs = search needs
@@ -308,7 +313,7 @@ same-length-14 c = c .before .before .before .before .before .before .before .be
 
 returns-7 : tie.Need-returns-7 Inv-loop μ-loop
 unfolding numberOf valuesOf
-returns-7 c = rw (c .refused3 .ensures .0, c .refused3 .ensures .1) (is-open-now (turn (c .before .before .before .before .before .before .before .before .before .before .before)) _ (due-member (c .before .before .before .before .before .before .before .before .before)) _ _ _ (found-container (c .before .before .before .before .before)) (sought (turn (c .before .before .before .before .before .before .before .before .before .before .before)) _ ∙ sym (c .before .before .is-among .ensures) ∙ c .before .if3 .taken))
+returns-7 c = rw (c .refused3 .ensures .0, c .refused3 .ensures .1) (is-open-now (turn (c .before .before .before .before .before .before .before .before .before .before .before)) _ (due-member (c .before .before .before .before .before .before .before .before .before)) _ _ _ (found-container (c .before .before .before .before .before)) (sought (turn (c .before .before .before .before .before .before .before .before .before .before .before)) _ ∙ sym (c .before .before .is-known .ensures) ∙ c .before .if3 .taken))
 
 refused-requires-4 : tie.Need-refused-requires-4 Inv-loop μ-loop
 refused-requires-4 c κs = search needs
@@ -321,7 +326,7 @@ same-length-16 c = c .before .before .before .before .before .before .before .be
 
 returns-8 : tie.Need-returns-8 Inv-loop μ-loop
 unfolding numberOf valuesOf
-returns-8 c = rw (c .refused4 .ensures .0, c .refused4 .ensures .1) (is-deep (turn (c .before .before .before .before .before .before .before .before .before .before .before .before)) _ (due-member (c .before .before .before .before .before .before .before .before .before .before)) _ _ _ (found-container (c .before .before .before .before .before .before)) (sought (turn (c .before .before .before .before .before .before .before .before .before .before .before .before)) _ ∙ sym (c .before .before .before .is-among .ensures) ∙ c .before .before .if3 .left) (c .before .if4 .taken))
+returns-8 c = rw (c .refused4 .ensures .0, c .refused4 .ensures .1) (is-deep (turn (c .before .before .before .before .before .before .before .before .before .before .before .before)) _ (due-member (c .before .before .before .before .before .before .before .before .before .before)) _ _ _ (found-container (c .before .before .before .before .before .before)) (sought (turn (c .before .before .before .before .before .before .before .before .before .before .before .before)) _ ∙ sym (c .before .before .before .is-known .ensures) ∙ c .before .before .if3 .left) (c .before .if4 .taken))
 
 note-start-requires : tie.Need-note-start-requires Inv-loop μ-loop
 note-start-requires c κs = search needs
@@ -340,7 +345,7 @@ same-length-18 c = c .before .before .before .before .before .before .note-start
 
 returns-9 : tie.Need-returns-9 Inv-loop μ-loop
 unfolding noteSaid
-returns-9 c = rw (c .failed3 .ensures .0, c .failed3 .ensures .1) (enter-fails (turn (c .before .before .before .before .before .before .before .before .before .before .before .before .before .before .before .before .before .before .before)) _ (due-member (c .before .before .before .before .before .before .before .before .before .before .before .before .before .before .before .before .before)) _ _ _ (found-container (c .before .before .before .before .before .before .before .before .before .before .before .before .before)) (sought (turn (c .before .before .before .before .before .before .before .before .before .before .before .before .before .before .before .before .before .before .before)) _ ∙ sym (c .before .before .before .before .before .before .before .before .before .before .is-among .ensures) ∙ c .before .before .before .before .before .before .before .before .before .if3 .left) (c .before .before .before .before .before .before .before .before .if4 .left) _ refl _ _ (c .before .before .before .before .before .before .note-start .ensures .0) (c .before .before .before .before .before .before .note-start .ensures .1) _ (ap noteSaid (c .before .before .failure3 .given .1)))
+returns-9 c = rw (c .failed3 .ensures .0, c .failed3 .ensures .1) (enter-fails (turn (c .before .before .before .before .before .before .before .before .before .before .before .before .before .before .before .before .before .before .before)) _ (due-member (c .before .before .before .before .before .before .before .before .before .before .before .before .before .before .before .before .before)) _ _ _ (found-container (c .before .before .before .before .before .before .before .before .before .before .before .before .before)) (sought (turn (c .before .before .before .before .before .before .before .before .before .before .before .before .before .before .before .before .before .before .before)) _ ∙ sym (c .before .before .before .before .before .before .before .before .before .before .is-known .ensures) ∙ c .before .before .before .before .before .before .before .before .before .if3 .left) (c .before .before .before .before .before .before .before .before .if4 .left) _ refl _ _ (c .before .before .before .before .before .before .note-start .ensures .0) (c .before .before .before .before .before .before .note-start .ensures .1) _ (ap noteSaid (c .before .before .failure3 .given .1)))
 
 enum-known-n-3 : tie.Need-enum-known-n-3 Inv-loop μ-loop
 enum-known-n-3 c = search needs
@@ -366,8 +371,8 @@ mul-numbers c = search needs
 array-write-numbers : tie.Need-array-write-numbers Inv-loop μ-loop
 array-write-numbers c = search needs
 
-cast-t79 : tie.Need-cast-t79 Inv-loop μ-loop
-cast-t79 c = omega (arith, short-length (turn (c .before .before .before .before .before .before .before .before .before .before .before .before .before .before .before .before .before .before .before)) _ _ _ _ (found-container (c .before .before .before .before .before .before .before .before .before .before .before .before .before)))
+cast-t80 : tie.Need-cast-t80 Inv-loop μ-loop
+cast-t80 c = omega (arith, short-length (turn (c .before .before .before .before .before .before .before .before .before .before .before .before .before .before .before .before .before .before .before)) _ _ _ _ (found-container (c .before .before .before .before .before .before .before .before .before .before .before .before .before)))
 
 mul-frames-6 : tie.Need-mul-frames-6 Inv-loop μ-loop
 mul-frames-6 c = search needs
@@ -381,21 +386,28 @@ add-depth c = search needs
 container-at-requires : tie.Need-container-at-requires Inv-loop μ-loop
 container-at-requires c κs = search needs
 
+add-higher : tie.Need-add-higher Inv-loop μ-loop
+add-higher c = omega (arith, short-number (turn (c .before .before .before .before .before .before .before .before .before .before .before .before .before .before .before .before .before .before .before .before)) _ _ _ _ (found-container (c .before .before .before .before .before .before .before .before .before .before .before .before .before .before)))
+
+higher-requires : tie.Need-higher-requires Inv-loop μ-loop
+higher-requires c κs = search needs
+
 loop-less-3 : tie.Need-loop-less-3 Inv-loop μ-loop
 loop-less-3 c = search needs
 
 loop-again-3 : tie.Need-loop-again-3 Inv-loop μ-loop
 unfolding noteSaid nextIn
 loop-again-3 c = (
-  c .before .before .before .before .before .before .before .before .before .before .before .before .before .before .before .before .before .before .before .before .before .before .before .before .loop .inv .0,
-  c .before .before .before .before .before .before .before .note-start .kept .0 ∙ c .before .before .before .before .before .before .before .before .before .before .before .before .before .before .before .before .before .before .before .before .before .before .before .before .loop .inv .1,
+  c .before .before .before .before .before .before .before .before .before .before .before .before .before .before .before .before .before .before .before .before .before .before .before .before .before .loop .inv .0,
+  c .before .before .before .before .before .before .before .before .note-start .kept .0 ∙ c .before .before .before .before .before .before .before .before .before .before .before .before .before .before .before .before .before .before .before .before .before .before .before .before .before .loop .inv .1,
   omega arith,
   λ e. absurd (omega arith),
-  enter-goes (turn (c .before .before .before .before .before .before .before .before .before .before .before .before .before .before .before .before .before .before .before .before)) _ (due-member (c .before .before .before .before .before .before .before .before .before .before .before .before .before .before .before .before .before .before)) _ _ _ (found-container (c .before .before .before .before .before .before .before .before .before .before .before .before .before .before)) (sought (turn (c .before .before .before .before .before .before .before .before .before .before .before .before .before .before .before .before .before .before .before .before)) _ ∙ sym (c .before .before .before .before .before .before .before .before .before .before .before .is-among .ensures) ∙ c .before .before .before .before .before .before .before .before .before .before .if3 .left) (c .before .before .before .before .before .before .before .before .before .if4 .left) _ refl _ _ (c .before .before .before .before .before .before .before .note-start .ensures .0) (c .before .before .before .before .before .before .before .note-start .ensures .1) _ (ap noteSaid (c .before .before .before .n3 .given .1)),
-  still-long (turn (c .before .before .before .before .before .before .before .before .before .before .before .before .before .before .before .before .before .before .before .before)) _ _,
-  enter-stands (turn (c .before .before .before .before .before .before .before .before .before .before .before .before .before .before .before .before .before .before .before .before)) _ (due-member (c .before .before .before .before .before .before .before .before .before .before .before .before .before .before .before .before .before .before)) _ _ _ (found-container (c .before .before .before .before .before .before .before .before .before .before .before .before .before .before)) (c .before .before .before .before .before .before .before .before .before .if4 .left) _ (c .container-at .ensures),
-  rw length-set (c .before .before .before .before .before .before .before .before .before .before .before .before .before .before .before .before .before .before .before .before .before .before .before .before .loop .inv .7),
-  enter-lists (turn (c .before .before .before .before .before .before .before .before .before .before .before .before .before .before .before .before .before .before .before .before)) (c .before .before .before .before .before .before .before .before .before .if4 .left) _ _,
+  enter-goes (turn (c .before .before .before .before .before .before .before .before .before .before .before .before .before .before .before .before .before .before .before .before .before)) _ (due-member (c .before .before .before .before .before .before .before .before .before .before .before .before .before .before .before .before .before .before .before)) _ _ _ (found-container (c .before .before .before .before .before .before .before .before .before .before .before .before .before .before .before)) (sought (turn (c .before .before .before .before .before .before .before .before .before .before .before .before .before .before .before .before .before .before .before .before .before)) _ ∙ sym (c .before .before .before .before .before .before .before .before .before .before .before .before .is-known .ensures) ∙ c .before .before .before .before .before .before .before .before .before .before .before .if3 .left) (c .before .before .before .before .before .before .before .before .before .before .if4 .left) _ refl _ _ (c .before .before .before .before .before .before .before .before .note-start .ensures .0) (c .before .before .before .before .before .before .before .before .note-start .ensures .1) _ (ap noteSaid (c .before .before .before .before .n3 .given .1)),
+  still-long (turn (c .before .before .before .before .before .before .before .before .before .before .before .before .before .before .before .before .before .before .before .before .before)) _ _,
+  enter-stands (turn (c .before .before .before .before .before .before .before .before .before .before .before .before .before .before .before .before .before .before .before .before .before)) _ (due-member (c .before .before .before .before .before .before .before .before .before .before .before .before .before .before .before .before .before .before .before)) _ _ _ (found-container (c .before .before .before .before .before .before .before .before .before .before .before .before .before .before .before)) (c .before .before .before .before .before .before .before .before .before .before .if4 .left) _ (c .before .container-at .ensures),
+  rw length-set (c .before .before .before .before .before .before .before .before .before .before .before .before .before .before .before .before .before .before .before .before .before .before .before .before .before .loop .inv .7),
+  enter-lists (turn (c .before .before .before .before .before .before .before .before .before .before .before .before .before .before .before .before .before .before .before .before .before)) (c .before .before .before .before .before .before .before .before .before .before .if4 .left) _ _,
+  enter-below (c .before .before .before .before .before .before .before .before .before .before .before .before .before .before .before .before .before .before .before .before .before .before .before .before .before .loop .depth) _ _ _ (c .before .before .before .before .before .before .before .before .before .before .before .before .before .before .before .before .before .before .before .before .before .before .before .before .before .loop .numbers) (omega (arith, c .before .before .before .before .before .before .before .before .before .before .if4 .left, c .before .before .before .before .before .before .before .before .before .before .before .before .before .before .before .before .before .before .before .before .before .before .before .before .before .loop .inv .7)) (c .higher .ensures .0) (c .higher .ensures .1) (c .before .before .before .before .before .before .before .before .before .before .before .before .before .before .before .before .before .before .before .before .before .before .before .before .before .loop .inv .9),
 )
 
 same-length-19 : tie.Need-same-length-19 Inv-loop μ-loop
@@ -477,8 +489,8 @@ walk-spec =
     enum-known-shape
     cast-number
     array-share-prefix-numbers
-    slice-aggregate-is-among
-    is-among-requires
+    slice-aggregate-is-known
+    is-known-requires
     refused-requires-3
     same-length-13
     same-length-14
@@ -501,11 +513,13 @@ walk-spec =
     way-write-given-frames-2
     mul-numbers
     array-write-numbers
-    cast-t79
+    cast-t80
     mul-frames-6
     array-set-from-frames-2
     add-depth
     container-at-requires
+    add-higher
+    higher-requires
     loop-less-3
     loop-again-3
     same-length-19
