@@ -3,6 +3,7 @@ pub mod Examples
 pub mod Interval
 pub mod Tests
 pub mod Bounds
+pub mod Left
 pub mod ScalarLaws
 pub mod Utf8Laws
 pub mod Utf8Bits

@@ -1,20 +1,18 @@
--- Runs of ASCII: how long the one at the start is, a place that only ASCII precedes, and eight bytes as one number.
-use mathlib.Core.Bool.{true, cond}
-use mathlib.Core.Path.{_≡_}
+-- Runs of ASCII: how long the one at the start is, a place within a run, and eight bytes as one number.
+use mathlib.Core.Bool.{cond}
 use mathlib.Core.List.{List, [], _∷_}
 use Prim.Native.Nat.{ℕ, zero, suc, _+_, _*_, _≤_}
 use lib.Dec.{ltb}
-use lib.ListN.{length, take}
-use Rattle.unicode.specs.Unicode.{isAscii}
+use lib.ListN.{drop}
 
 -- how many bytes at the start are ASCII
 unfoldable pub asciiRun : List ℕ → ℕ
 asciiRun [] = 0
 asciiRun (b ∷ s) = cond (ltb b 0x80) (suc (asciiRun s)) 0
 
--- all bytes before a place are ASCII
-abbrev pub PlainTo : List ℕ → ℕ → Type 0
-PlainTo s i = (i ≤ length s) × (isAscii (take i s) ≡ true)
+-- a place within the run of ASCII that begins at another, or at its end
+abbrev pub InRun : List ℕ → ℕ → ℕ → Type 0
+InRun s from i = (from ≤ i) × (i ≤ from + asciiRun (drop from s))
 
 -- the number of bytes, the first one lowest
 unfoldable pub littleOf : List ℕ → ℕ

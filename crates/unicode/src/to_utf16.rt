@@ -1,6 +1,6 @@
 // UTF-8 changed to UTF-16 of big-endian byte pairs: measured, then written.
 use crate::changed::Changed;
-use crate::utf8::check_utf8;
+use crate::utf8::walk_utf8;
 ghost use mathlib.Core.Path.{_≡_};
 ghost use mathlib.Core.Bool.{true};
 ghost use mathlib.Core.List.{[], _∷_};
@@ -28,7 +28,7 @@ struct Scalar {
 pub fn utf16_units(s: &[u8]) -> Units
     ensures { λ r. ⌜ r ≡ utf16UnitsOf (now (s .entry)) ⌝ }
 {
-    if check_utf8(s) {
+    if walk_utf8(s, 0) {
         return Units::Count(units_in(s));
     }
     Units::NotUtf8

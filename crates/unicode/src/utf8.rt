@@ -1,95 +1,145 @@
 // Whether bytes are UTF-8, and whether they are ASCII.
 use crate::plain::past_bytes;
 use crate::plain::past_plain;
-use crate::plain::past_run;
 use crate::plain::past_steps;
 ghost use mathlib.Core.Path.{_≡_};
-ghost use Prim.Native.Nat.{_≤_};
-ghost use Rattle.unicode.specs.Unicode.{isUtf8, isAscii, rowOf, table};
-ghost use Rattle.unicode.specs.Utf8Walk.{rangesAfter};
-ghost use Rattle.unicode.specs.Plain.{PlainTo};
+ghost use Prim.Native.Nat.{_≤_, _<_};
+ghost use lib.ListN.{length, getD, drop};
+ghost use Rattle.unicode.specs.Unicode.{_to_, isUtf8, isAscii};
+ghost use Rattle.unicode.specs.Utf8Walk.{SequenceAt, nextIn, lowAfter, highAfter};
 
-// What may follow a first byte: how many bytes, and the range of the next; those after it are 80 to BF.
-enum Lead {
-    More(u8, u8, u8),
-    Never,
-}
-
-// The rows of the table for first bytes above ASCII.
-fn lead_of(b: u8) -> Lead
-    requires { ⌜ 0x80 ≤ b ⌝ }
-    ensures { λ r. ⌜ rangesAfter r ≡ rowOf table b ⌝ }
-{
-    match b {
-        0xC2..=0xDF => Lead::More(1, 0x80, 0xBF),
-        0xE0 => Lead::More(2, 0xA0, 0xBF),
-        0xE1..=0xEC => Lead::More(2, 0x80, 0xBF),
-        0xED => Lead::More(2, 0x80, 0x9F),
-        0xEE..=0xEF => Lead::More(2, 0x80, 0xBF),
-        0xF0 => Lead::More(3, 0x90, 0xBF),
-        0xF1..=0xF3 => Lead::More(3, 0x80, 0xBF),
-        0xF4 => Lead::More(3, 0x80, 0x8F),
-        _ => Lead::Never,
-    }
-}
-
-// Whether the bytes are well-formed UTF-8. It sees a few ASCII bytes itself and is small, so that the compiler puts it into each caller.
+// Whether the bytes are well-formed UTF-8. It sees a few bytes itself and is small, so that the compiler puts it into each caller; a sequence of
+// four bytes is left to the walk.
 pub fn is_utf8(s: &[u8]) -> bool
     ensures { λ r. ⌜ r ≡ isUtf8 (now (s .entry)) ⌝ }
 {
-    if s.len() < 8 {
-        if past_bytes(s, 0) == s.len() {
-            return true;
-        }
+    if 8 <= s.len() {
+        return walk_utf8(s, 0);
     }
-    check_utf8(s)
+    let mut i: usize = 0;
+    while i < s.len() {
+        if 0x80 <= s[i] {
+            if 0xEF < s[i] {
+                return walk_utf8(s, i);
+            }
+            let width = short_width(s, i);
+            if width == 0 {
+                return false;
+            }
+            i += width;
+            continue;
+        }
+        i += 1;
+    }
+    true
 }
 
-// The same: nearly all texts are ASCII, so it begins with steps over many bytes. With two callers it stays a function of its own.
-pub(crate) fn check_utf8(s: &[u8]) -> bool
-    ensures { λ r. ⌜ r ≡ isUtf8 (now (s .entry)) ⌝ }
-{
-    walk_utf8(s, past_plain(s))
-}
-
-// The walk from a place on before which all is ASCII: a run of ASCII, or a sequence of more bytes, a turn.
-fn walk_utf8(s: &[u8], from: usize) -> bool
-    requires { ⌜ PlainTo (now s) from ⌝ }
-    ensures { λ r. ⌜ r ≡ isUtf8 (now (s .entry)) ⌝ }
+// The same of the bytes from a place on: a part of a run of ASCII, or a sequence of more bytes, a turn. With several callers it stays a function of
+// its own.
+pub(crate) fn walk_utf8(s: &[u8], from: usize) -> bool
+    requires { ⌜ from ≤ length (now s) ⌝ }
+    ensures { λ r. ⌜ r ≡ isUtf8 (drop from (now (s .entry))) ⌝ }
 {
     let mut i: usize = from;
     while i < s.len() {
-        let b = s[i];
-        i += 1;
-        if b < 0x80 {
-            i = past_run(s, i);
+        if s[i] < 0x80 {
+            i = past_plain(s, i);
             continue;
         }
-        let Lead::More(count, least, most) = lead_of(b) else {
+        let width = width_at(s, i);
+        if width == 0 {
             return false;
-        };
-        // the bytes still to come of the sequence, and the range of the next one
-        let mut left = count;
-        let mut low = least;
-        let mut high = most;
-        while 0 < left {
-            if s.len() <= i {
-                return false;
-            }
-            let next = s[i];
-            i += 1;
-            if next < low {
-                return false;
-            }
-            if high < next {
-                return false;
-            }
-            left -= 1;
-            low = 0x80;
-            high = 0xBF;
         }
+        i += width;
     }
     true
+}
+
+// How many bytes the sequence at a place has that is not ASCII; 0 where none stands there.
+fn width_at(s: &[u8], i: usize) -> usize
+    requires { ⌜ (i < length (now s)) × (0x80 ≤ getD (now s) i 0) ⌝ }
+    ensures { λ r. ⌜ SequenceAt (now (s .entry)) i r ⌝ }
+{
+    if s[i] < 0xF0 {
+        return short_width(s, i);
+    }
+    long_width(s, i)
+}
+
+// The same below F0: two bytes, or three.
+fn short_width(s: &[u8], i: usize) -> usize
+    requires { ⌜ (i < length (now s)) × (0x80 ≤ getD (now s) i 0) × (getD (now s) i 0 < 0xF0) ⌝ }
+    ensures { λ r. ⌜ SequenceAt (now (s .entry)) i r ⌝ }
+{
+    let b = s[i];
+    if b < 0xE0 {
+        if b < 0xC2 {
+            return 0;
+        }
+        if follows(s, i + 1, 0x80, 0xBF) {
+            return 2;
+        }
+        return 0;
+    }
+    if follows(s, i + 1, low_after(b), high_after(b)) {
+        if follows(s, i + 2, 0x80, 0xBF) {
+            return 3;
+        }
+    }
+    0
+}
+
+// The same from F0 on: four bytes.
+fn long_width(s: &[u8], i: usize) -> usize
+    requires { ⌜ (i < length (now s)) × (0xF0 ≤ getD (now s) i 0) ⌝ }
+    ensures { λ r. ⌜ SequenceAt (now (s .entry)) i r ⌝ }
+{
+    let b = s[i];
+    if 0xF4 < b {
+        return 0;
+    }
+    if follows(s, i + 1, low_after(b), high_after(b)) {
+        if follows(s, i + 2, 0x80, 0xBF) {
+            if follows(s, i + 3, 0x80, 0xBF) {
+                return 4;
+            }
+        }
+    }
+    0
+}
+
+// Whether a byte stands at a place, and within a range.
+fn follows(s: &[u8], i: usize, low: u8, high: u8) -> bool
+    ensures { λ r. ⌜ r ≡ nextIn (low to high) (drop i (now (s .entry))) ⌝ }
+{
+    if s.len() <= i {
+        return false;
+    }
+    if s[i] < low {
+        return false;
+    }
+    s[i] <= high
+}
+
+// The range of the byte after a first byte of a sequence of three or four.
+fn low_after(b: u8) -> u8
+    ensures { λ r. ⌜ r ≡ lowAfter b ⌝ }
+{
+    match b {
+        0xE0 => 0xA0,
+        0xF0 => 0x90,
+        _ => 0x80,
+    }
+}
+
+fn high_after(b: u8) -> u8
+    ensures { λ r. ⌜ r ≡ highAfter b ⌝ }
+{
+    match b {
+        0xED => 0x9F,
+        0xF4 => 0x8F,
+        _ => 0xBF,
+    }
 }
 
 // Whether every byte is below 80.

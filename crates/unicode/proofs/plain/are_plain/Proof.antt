@@ -4,9 +4,12 @@ use mathlib.Core.Path.{_≡_, refl, _∙_}
 use Prim.Native.Nat.{_-_, _≤_}
 use native.Mathlib.Omega.{arith}
 use borrow.Author.Needs.{needs}
-use lib.ListN.{length, drop, drop-of-length-le}
+use lib.ListN.{length, take, drop, drop-of-length-le}
+use lib.Seq.{take-all}
 use Rattle.unicode.specs.Unicode.{isAscii}
-use Rattle.unicode.proofs.Left.{left-at}
+use Rattle.unicode.specs.Bounds.{below-all}
+use Rattle.unicode.specs.Left.{left-at}
+use Rattle.unicode.specs.PlainLaws.{tops-ascii}
 use Rattle.unicode.proofs.plain.are_plain.Statement.{statement}
 use Rattle.unicode.proofs.plain.are_plain.Tie as tie
 
@@ -16,11 +19,15 @@ Inv-loop part plain₀ k₀ plain k = (k ≤ length part) × ((plain && isAscii 
 abbrev μ-loop : tie.MeasureT-loop
 μ-loop part plain₀ k₀ plain k = length part - k
 
-are-eight-plain-requires : tie.Need-are-eight-plain-requires Inv-loop μ-loop
-are-eight-plain-requires c κs = search needs
+tops-at-requires : tie.Need-tops-at-requires Inv-loop μ-loop
+tops-at-requires c κs = search needs
 
 returns : tie.Need-returns Inv-loop μ-loop
-returns c = c .are-eight-plain .ensures
+returns c =
+    let part = c .before .before .before .args .part .now in
+    let eight : length part ≡ 8 = c .before .if1 .taken in
+    let all : take 8 part ≡ part = take-all 8 part (omega arith) in
+    rw (c .tops-at .ensures, all) (rw eight at (tops-ascii part (below-all 256 part (λ i. omega (arith, c .before .before .shared-slice-known .given i)))))
 
 loop-holds : tie.Need-loop-holds Inv-loop μ-loop
 loop-holds c = (omega arith, refl)
@@ -53,7 +60,7 @@ are-plain-spec =
     (tie.spec
     Inv-loop
     μ-loop
-    are-eight-plain-requires
+    tops-at-requires
     returns
     loop-holds
     shared-slice-read-plain

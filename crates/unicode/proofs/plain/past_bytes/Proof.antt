@@ -5,7 +5,7 @@ use native.Mathlib.Omega.{arith}
 use lib.ListN.{length, drop, drop-of-length-le}
 use borrow.Author.Tests.{lt-ltb, le-ltb}
 use Rattle.unicode.specs.Plain.{asciiRun}
-use Rattle.unicode.proofs.Left.{left-at}
+use Rattle.unicode.specs.Left.{left-at}
 use Rattle.unicode.proofs.plain.past_bytes.Statement.{statement}
 use Rattle.unicode.proofs.plain.past_bytes.Tie as tie
 

@@ -1,23 +1,23 @@
--- `past_steps`: before each place that it comes to, all is ASCII.
+-- `past_steps` comes to places in the run.
 use mathlib.Core.Path.{sym, _∙_}
-use Prim.Native.Nat.{_-_}
+use Prim.Native.Nat.{_-_, _+_, _≤_}
 use native.Mathlib.Nat.{add-sub-cancel-left}
 use native.Mathlib.Omega.{arith}
 use borrow.Author.Needs.{needs}
-use lib.ListN.{length}
-use Rattle.unicode.specs.Plain.{PlainTo}
-use Rattle.unicode.specs.PlainLaws.{plain-step}
+use lib.ListN.{length, drop, length-drop}
+use Rattle.unicode.specs.Plain.{InRun, asciiRun}
+use Rattle.unicode.specs.PlainLaws.{run-plain, run-far}
 use Rattle.unicode.proofs.plain.past_steps.Statement.{statement}
 use Rattle.unicode.proofs.plain.past_steps.Tie as tie
 
 abbrev Inv-loop : tie.InvT-loop
-Inv-loop s from step i₀ i = PlainTo s i
+Inv-loop s from step i₀ i = (i ≤ length s) × InRun s from i
 
 abbrev μ-loop : tie.MeasureT-loop
 μ-loop s from step i₀ i = length s - i
 
 loop-holds : tie.Need-loop-holds Inv-loop μ-loop
-loop-holds c = c .before .pre .0
+loop-holds c = (c .before .pre .0, (omega arith, omega arith))
 
 sub-loop : tie.Need-sub-loop Inv-loop μ-loop
 sub-loop c = c .loop .inv .0
@@ -47,13 +47,15 @@ loop-again : tie.Need-loop-again Inv-loop μ-loop
 loop-again c =
     let l = c .before .before .before .before .loop in
     let a = c .before .before .before .before .before .before .args in
-    plain-step (a .s .now) (l .i) (l .inv) (a .step) (omega arith) (rw add-sub-cancel-left at (sym (c .before .are-plain .ensures) ∙ c .if1 .taken))
+    let s = a .s .now in
+    let more : a .step ≤ asciiRun (drop (l .i) s) = run-plain (a .step) (drop (l .i) s) (rw length-drop (omega arith)) (rw add-sub-cancel-left at (sym (c .before .are-plain .ensures) ∙ c .if1 .taken)) in
+    (omega arith, run-far s (a .from) (l .i) (l .inv .1) (l .i + a .step) (omega arith, omega arith))
 
 returns : tie.Need-returns Inv-loop μ-loop
-returns c = c .before .before .before .before .loop .inv
+returns c = c .before .before .before .before .loop .inv .1
 
 returns-2 : tie.Need-returns-2 Inv-loop μ-loop
-returns-2 c = c .before .loop .inv
+returns-2 c = c .before .loop .inv .1
 
 pub past-steps-spec : {M : Type 1} → statement M
 past-steps-spec =

@@ -6,7 +6,7 @@ use borrow.Author.Needs.{needs}
 use lib.ListN.{length, getD, drop, drop-of-length-le}
 use Rattle.unicode.specs.ToUtf16.{unitsFrom, unitsIn}
 use Rattle.unicode.specs.ToUtf16Walk.{units-le}
-use Rattle.unicode.proofs.Left.{left-at}
+use Rattle.unicode.specs.Left.{left-at}
 use Rattle.unicode.proofs.to_utf16.units_in.Statement.{statement}
 use Rattle.unicode.proofs.to_utf16.units_in.Tie as tie
 

@@ -9,8 +9,8 @@ use Rattle.unicode.specs.declared.to_utf16.Units.the-variants.{Count}
 use Rattle.unicode.proofs.to_utf16.utf16_units.Statement.{statement}
 use Rattle.unicode.proofs.to_utf16.utf16_units.Tie as tie
 
-check-utf8-requires : tie.Need-check-utf8-requires
-check-utf8-requires c κs = search needs
+walk-utf8-requires : tie.Need-walk-utf8-requires
+walk-utf8-requires c κs = search needs
 
 units-in-requires : tie.Need-units-in-requires
 units-in-requires c κs = search needs
@@ -18,12 +18,12 @@ units-in-requires c κs = search needs
 returns : tie.Need-returns
 unfolding utf16UnitsOf
 returns c =
-    let u : isUtf8 (c .before .before .before .before .args .s .now) ≡ true = sym (c .before .before .check-utf8 .ensures) ∙ c .before .if1 .taken in
+    let u : isUtf8 (c .before .before .before .before .args .s .now) ≡ true = sym (c .before .before .walk-utf8 .ensures) ∙ c .before .if1 .taken in
     rw u (ap Count (c .units-in .ensures ∙ counted _ u .0))
 
 returns-2 : tie.Need-returns-2
 unfolding utf16UnitsOf
-returns-2 c = rw (sym (c .before .check-utf8 .ensures) ∙ c .if1 .left)
+returns-2 c = rw (sym (c .before .walk-utf8 .ensures) ∙ c .if1 .left)
 
 pub utf16-units-spec : {M : Type 1} → statement M
-utf16-units-spec = tie.close (tie.spec check-utf8-requires units-in-requires returns returns-2)
+utf16-units-spec = tie.close (tie.spec walk-utf8-requires units-in-requires returns returns-2)
