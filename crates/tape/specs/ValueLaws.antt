@@ -6,11 +6,12 @@ use Prim.Native.Nat.{ℕ, zero, suc, _+_, _-_, _*_, _/_, _%_, _^_, _≤_, _<_}
 use native.Mathlib.Omega.{arith}
 use borrow.Author.Tests.{lt-ltb, le-ltb, ne-eqb, ltb-true, ltb-false, eqb-false}
 use lib.Dec.{ltb, eqb}
-use lib.ListN.{length}
+use lib.ListN.{length, getD, drop}
+use lib.Seq.{drop-cons}
 use Rattle.number.specs.BeLaws.{Bytes}
 use Rattle.tape.specs.Seven.{groups, seven}
 use Rattle.tape.specs.SevenLaws.{groups-last, groups-more, rest-lt, seven-last, seven-more}
-use Rattle.tape.specs.Value.{onto, numberFrom}
+use Rattle.tape.specs.Value.{onto, numberFrom, numberAt}
 use Rattle.tape.specs.declared.value.Value.{Value}
 use Rattle.tape.specs.declared.value.Value.the-variants.{Of, NoValue}
 
@@ -22,6 +23,10 @@ number-last at b s h = rw lt-ltb
 pub number-more : (at b : ℕ) (s : List ℕ) → 128 ≤ b → numberFrom at (b ∷ s) ≡ onto (b - 128) (numberFrom (at + 1) s)
 unfolding numberFrom
 number-more at b s h = rw le-ltb
+
+pub number-one : (tape : List ℕ) (at : ℕ) → at < length tape → getD tape at 0 < 128 → numberAt tape at ≡ Of (getD tape at 0) (at + 1)
+unfolding numberAt
+number-one tape at l h = rw (drop-cons tape at 0 l) (number-last at (getD tape at 0) (drop (suc at) tape) h)
 
 -- a low group in front of a number that isn't 0
 pub onto-of : (b n next : ℕ) → 0 < n → n < 2 ^ 57 → onto b (Of n next) ≡ Of (n * 128 + b) next

@@ -4,6 +4,7 @@ use crate::item::Step;
 use crate::room::lacks_room;
 use crate::value::Value;
 use crate::value::eight_at;
+use crate::value::length_at;
 use crate::value::number_at;
 use event::Event;
 use event::Integer;
@@ -42,6 +43,28 @@ pub fn step(tape: &[u8], at: usize) -> Step
         0x0d => numbered(0x0d, number_at(tape, next)),
         0x0e => no_bytes(Event::EndCollection, next),
         _ => Step::Bad,
+    }
+}
+
+// The same, for a walk that is no other function's: it becomes part of the walk's loop, which then makes no event that it doesn't need. The
+// kinds that most events are of have their own arms.
+pub fn walk(tape: &[u8], at: usize) -> Step
+    ensures { λ r. ⌜ r ≡ itemAt (now (tape .entry)) at ⌝ }
+{
+    if tape.len() <= at {
+        return Step::Bad;
+    }
+    let next = at + 1;
+    match tape[at] {
+        0x03 => numbered(0x03, number_at(tape, next)),
+        0x08 => data_at(tape, length_at(tape, next)),
+        0x09 => text_at(tape, length_at(tape, next)),
+        0x0a => no_bytes(Event::StartArray(Length::NotGiven), next),
+        0x0b => numbered(0x0b, number_at(tape, next)),
+        0x0c => no_bytes(Event::StartDictionary(Length::NotGiven), next),
+        0x0d => numbered(0x0d, number_at(tape, next)),
+        0x0e => no_bytes(Event::EndCollection, next),
+        _ => step(tape, at),
     }
 }
 

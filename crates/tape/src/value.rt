@@ -35,6 +35,19 @@ pub fn number_at(tape: &[u8], at: usize) -> Value
     Value::NoValue
 }
 
+// The same, quickly where the number is one group, as most lengths are.
+pub(crate) fn length_at(tape: &[u8], at: usize) -> Value
+    ensures { λ r. ⌜ r ≡ numberAt (now (tape .entry)) at ⌝ }
+{
+    if at < tape.len() {
+        let group = tape[at];
+        if group < 0x80 {
+            return Value::Of(group as u64, at + 1);
+        }
+    }
+    number_at(tape, at)
+}
+
 // The whole number, once its last group is read: a group of 0 is the shortest form of 0 alone, and the whole is at most 2^64 - 1, so that a
 // tenth group is 1.
 fn last_group(value: u64, unit: u64, group: u64, next: usize) -> Value
