@@ -4,7 +4,7 @@ use mathlib.Core.List.{List, _∷_}
 use mathlib.Core.Path.{_≡_, refl, sym}
 use Prim.Native.Nat.{ℕ, _+_, _<_, _≤_, _^_}
 use native.Mathlib.Omega.{arith}
-use borrow.Author.Tests.{lt-ltb, le-ltb, ltb-true}
+use borrow.Author.Tests.{lt-ltb, le-ltb, ltb-true, ne-eqb}
 use lib.Dec.{ltb}
 use lib.IntN.{ℤ, pos, negsuc}
 use lib.ListN.{length, getD}
@@ -83,3 +83,24 @@ item-of tape at k h e = rw (lt-ltb at (length tape) h, e)
 pub item-past : (tape : List ℕ) (at : ℕ) → length tape ≤ at → itemAt tape at ≡ Bad
 unfolding itemAt
 item-past tape at h = rw (le-ltb at (length tape) h)
+
+-- no kind, by the tests of the code
+pub of-none : (tape : List ℕ) (k at : ℕ) → (((((((((((((Unit {0} × (k ≡ 0x01 → ⊥)) × (k ≡ 0x02 → ⊥)) × (k ≡ 0x03 → ⊥)) × (k ≡ 0x04 → ⊥)) × (k ≡ 0x05 → ⊥)) × (k ≡ 0x06 → ⊥)) × (k ≡ 0x07 → ⊥)) × (k ≡ 0x08 → ⊥)) × (k ≡ 0x09 → ⊥)) × (k ≡ 0x0A → ⊥)) × (k ≡ 0x0B → ⊥)) × (k ≡ 0x0C → ⊥)) × (k ≡ 0x0D → ⊥)) × (k ≡ 0x0E → ⊥) → ofKind tape k at ≡ Bad
+unfolding ofKind
+of-none tape k at r =
+    simp (
+      ne-eqb k 0x01 (r .0 .0 .0 .0 .0 .0 .0 .0 .0 .0 .0 .0 .0 .1),
+      ne-eqb k 0x02 (r .0 .0 .0 .0 .0 .0 .0 .0 .0 .0 .0 .0 .1),
+      ne-eqb k 0x03 (r .0 .0 .0 .0 .0 .0 .0 .0 .0 .0 .0 .1),
+      ne-eqb k 0x04 (r .0 .0 .0 .0 .0 .0 .0 .0 .0 .0 .1),
+      ne-eqb k 0x05 (r .0 .0 .0 .0 .0 .0 .0 .0 .0 .1),
+      ne-eqb k 0x06 (r .0 .0 .0 .0 .0 .0 .0 .0 .1),
+      ne-eqb k 0x07 (r .0 .0 .0 .0 .0 .0 .0 .1),
+      ne-eqb k 0x08 (r .0 .0 .0 .0 .0 .0 .1),
+      ne-eqb k 0x09 (r .0 .0 .0 .0 .0 .1),
+      ne-eqb k 0x0A (r .0 .0 .0 .0 .1),
+      ne-eqb k 0x0B (r .0 .0 .0 .1),
+      ne-eqb k 0x0C (r .0 .0 .1),
+      ne-eqb k 0x0D (r .0 .1),
+      ne-eqb k 0x0E (r .1),
+    )

@@ -46,8 +46,8 @@ pub fn step(tape: &[u8], at: usize) -> Step
     }
 }
 
-// The same, for a walk that is no other function's: it becomes part of the walk's loop, which then makes no event that it doesn't need. The
-// kinds that most events are of have their own arms.
+// The same, for the loop of a walk, of which it becomes part because it is called in no other place: so the loop makes no event that it doesn't
+// need. `step`, which others call too, is a function apart. Lengths are read quickly.
 pub fn walk(tape: &[u8], at: usize) -> Step
     ensures { λ r. ⌜ r ≡ itemAt (now (tape .entry)) at ⌝ }
 {
@@ -56,7 +56,13 @@ pub fn walk(tape: &[u8], at: usize) -> Step
     }
     let next = at + 1;
     match tape[at] {
+        0x01 => no_bytes(Event::Boolean(false), next),
+        0x02 => no_bytes(Event::Boolean(true), next),
         0x03 => numbered(0x03, number_at(tape, next)),
+        0x04 => negative(number_at(tape, next)),
+        0x05 => numbered(0x05, eight_at(tape, next)),
+        0x06 => dated(eight_at(tape, next)),
+        0x07 => numbered(0x07, number_at(tape, next)),
         0x08 => data_at(tape, length_at(tape, next)),
         0x09 => text_at(tape, length_at(tape, next)),
         0x0a => no_bytes(Event::StartArray(Length::NotGiven), next),
@@ -64,7 +70,7 @@ pub fn walk(tape: &[u8], at: usize) -> Step
         0x0c => no_bytes(Event::StartDictionary(Length::NotGiven), next),
         0x0d => numbered(0x0d, number_at(tape, next)),
         0x0e => no_bytes(Event::EndCollection, next),
-        _ => step(tape, at),
+        _ => Step::Bad,
     }
 }
 

@@ -1,11 +1,9 @@
 -- `step`: the kind decides, and each class of kinds is read by its own function.
 use mathlib.Core.Path.{refl, ap, sym, _∙_}
 use borrow.Author.Needs.{needs}
-use borrow.Author.Tests.{ne-eqb}
-use lib.ListN.{getD}
 use Rattle.tape.specs.Item.{numbered, negative, dateIn, dataIn, textIn, ofKind}
 use Rattle.tape.specs.Kinds.{eventOf}
-use Rattle.tape.specs.KindsLaws.{item-of, item-past}
+use Rattle.tape.specs.KindsLaws.{item-of, item-past, of-none}
 use Rattle.tape.proofs.step.step.Statement.{statement}
 use Rattle.tape.proofs.step.step.Tie as tie
 
@@ -148,26 +146,7 @@ unfolding ofKind
 returns-15 c = c .no-bytes5 .ensures ∙ sym (item-of _ _ _ (c .before .before .before .if1 .left) (c .before .match .keys14))
 
 returns-16 : tie.Need-returns-16
-unfolding ofKind
-returns-16 c =
-    let k = getD (c .before .before .before .before .args .tape .now) (c .before .before .before .before .args .at) 0 in
-    let r = c .match .rest in
-    sym (item-of _ _ _ (c .before .before .if1 .left) refl ∙ simp (
-      ne-eqb k 0x01 (r .0 .0 .0 .0 .0 .0 .0 .0 .0 .0 .0 .0 .0 .1),
-      ne-eqb k 0x02 (r .0 .0 .0 .0 .0 .0 .0 .0 .0 .0 .0 .0 .1),
-      ne-eqb k 0x03 (r .0 .0 .0 .0 .0 .0 .0 .0 .0 .0 .0 .1),
-      ne-eqb k 0x04 (r .0 .0 .0 .0 .0 .0 .0 .0 .0 .0 .1),
-      ne-eqb k 0x05 (r .0 .0 .0 .0 .0 .0 .0 .0 .0 .1),
-      ne-eqb k 0x06 (r .0 .0 .0 .0 .0 .0 .0 .0 .1),
-      ne-eqb k 0x07 (r .0 .0 .0 .0 .0 .0 .0 .1),
-      ne-eqb k 0x08 (r .0 .0 .0 .0 .0 .0 .1),
-      ne-eqb k 0x09 (r .0 .0 .0 .0 .0 .1),
-      ne-eqb k 0x0A (r .0 .0 .0 .0 .1),
-      ne-eqb k 0x0B (r .0 .0 .0 .1),
-      ne-eqb k 0x0C (r .0 .0 .1),
-      ne-eqb k 0x0D (r .0 .1),
-      ne-eqb k 0x0E (r .1),
-    ))
+returns-16 c = sym (item-of _ _ _ (c .before .before .if1 .left) refl ∙ of-none _ _ _ (c .match .rest))
 
 pub step-spec : {M : Type 1} → statement M
 step-spec =
