@@ -121,6 +121,8 @@ use Rattle.reader.proofs.request.text_length.Kinds as text-length-kinds
 use Rattle.reader.proofs.request.text_length.Reads as text-length-reads
 use Rattle.reader.proofs.request.text_part.Kinds as text-part-kinds
 use Rattle.reader.proofs.request.text_part.Reads as text-part-reads
+use Rattle.tape.proofs.step.quick_step.Kinds as quick-step-kinds
+use Rattle.tape.proofs.step.quick_step.Reads as quick-step-reads
 use Rattle.tape.proofs.step.step.Kinds as step-kinds
 use Rattle.tape.proofs.step.step.Reads as step-reads
 use Rattle.tape.proofs.append.append.Kinds as append-kinds
@@ -266,6 +268,9 @@ text-part-one κs a x y e f p q = p ∙ sym q
 
 step-one : One 1 step-kinds.ps step-kinds.r step-reads.Post (Unit {0}) (λ κs e. tt)
 step-one κs a x y e f p q = (p ∙ sym q, refl)
+
+quick-step-one : One 1 quick-step-kinds.ps quick-step-kinds.r quick-step-reads.Post (Unit {0}) (λ κs e. tt)
+quick-step-one κs a x y e f p q = (p ∙ sym q, refl)
 
 append-one : One 2 append-kinds.ps append-kinds.r append-reads.Post (List ℕ) (λ κs e. now (e .0))
 append-one κs a x y e f p q = (said-one x y (p .0 ∙ sym (q .0)), p .1 .0 ∙ sym (q .1 .0))

@@ -3,7 +3,7 @@ use crate::answer::EventKind;
 use crate::answer::Refusal;
 use event::Event;
 use tape::item::Step;
-use tape::step::walk;
+use tape::step::quick_step;
 ghost use mathlib.Core.List.{[]};
 ghost use mathlib.Core.Path.{_≡_};
 ghost use Rattle.event.specs.Meaning.{meaningOf};
@@ -60,7 +60,7 @@ pub(crate) fn turn_at(tape: &[u8], at: usize, due: Due) -> Turned
     if is_nothing(due) {
         return stopped(Refusal::TrailingEvents, at);
     }
-    let Step::Item(item) = walk(tape, at) else {
+    let Step::Item(item) = quick_step(tape, at) else {
         return stopped(Refusal::BadTape, at);
     };
     let event = item.event;

@@ -46,9 +46,9 @@ pub fn step(tape: &[u8], at: usize) -> Step
     }
 }
 
-// The same, for the loop of a walk, of which it becomes part because it is called in no other place: so the loop makes no event that it doesn't
-// need. `step`, which others call too, is a function apart. Lengths are read quickly.
-pub fn walk(tape: &[u8], at: usize) -> Step
+// The same, for the check of a tape. Text, starts and ends, which most events are, have their own arms: called in one place, they become part
+// of its loop, which makes no event of them. On arrays in arrays the writer takes a sixth less time for it.
+pub fn quick_step(tape: &[u8], at: usize) -> Step
     ensures { λ r. ⌜ r ≡ itemAt (now (tape .entry)) at ⌝ }
 {
     if tape.len() <= at {
@@ -56,21 +56,13 @@ pub fn walk(tape: &[u8], at: usize) -> Step
     }
     let next = at + 1;
     match tape[at] {
-        0x01 => no_bytes(Event::Boolean(false), next),
-        0x02 => no_bytes(Event::Boolean(true), next),
-        0x03 => numbered(0x03, number_at(tape, next)),
-        0x04 => negative(number_at(tape, next)),
-        0x05 => numbered(0x05, eight_at(tape, next)),
-        0x06 => dated(eight_at(tape, next)),
-        0x07 => numbered(0x07, number_at(tape, next)),
-        0x08 => data_at(tape, length_at(tape, next)),
         0x09 => text_at(tape, length_at(tape, next)),
         0x0a => no_bytes(Event::StartArray(Length::NotGiven), next),
         0x0b => numbered(0x0b, number_at(tape, next)),
         0x0c => no_bytes(Event::StartDictionary(Length::NotGiven), next),
         0x0d => numbered(0x0d, number_at(tape, next)),
         0x0e => no_bytes(Event::EndCollection, next),
-        _ => Step::Bad,
+        _ => step(tape, at),
     }
 }
 

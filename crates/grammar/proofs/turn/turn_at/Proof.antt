@@ -18,11 +18,11 @@ unfolding turnAt
 returns c = simp (← c .before .before .is-nothing .ensures, c .before .if1 .taken, ← c .stopped .ensures)
 
 -- something is due where the tape is stepped over
-due : (x : tie.After-walk) → isNothing (x .before .before .before .before .args .due) ≡ false
+due : (x : tie.After-quick-step) → isNothing (x .before .before .before .before .args .due) ≡ false
 due x = sym (x .before .before .is-nothing .ensures) ∙ x .before .if1 .left
 
-walk-requires : tie.Need-walk-requires
-walk-requires c κs = search needs
+quick-step-requires : tie.Need-quick-step-requires
+quick-step-requires c κs = search needs
 
 enum-known-item : tie.Need-enum-known-item
 enum-known-item c = search needs
@@ -36,7 +36,7 @@ stopped-requires-2 c κs = search needs
 returns-2 : tie.Need-returns-2
 returns-2 c =
     let b = c .before .before .before in
-    c .stopped2 .ensures ∙ sym (turn-bad _ _ _ (due b) (sym (b .walk .ensures) ∙ c .before .enum-told .given .1))
+    c .stopped2 .ensures ∙ sym (turn-bad _ _ _ (due b) (sym (b .quick-step .ensures) ∙ c .before .enum-told .given .1))
 
 turn-of-requires : tie.Need-turn-of-requires
 turn-of-requires c κs = search needs
@@ -44,7 +44,7 @@ turn-of-requires c κs = search needs
 returns-3 : tie.Need-returns-3
 returns-3 c =
     let b = c .before .before .before .before in
-    rw (c .turn-of .ensures) (sym (turn-item _ _ _ (due b) _ (sym (b .walk .ensures) ∙ c .before .before .item .given .1)))
+    rw (c .turn-of .ensures) (sym (turn-item _ _ _ (due b) _ (sym (b .quick-step .ensures) ∙ c .before .before .item .given .1)))
 
 pub turn-at-spec : {M : Type 1} → statement M
 turn-at-spec =
@@ -53,7 +53,7 @@ turn-at-spec =
     is-nothing-requires
     stopped-requires
     returns
-    walk-requires
+    quick-step-requires
     enum-known-item
     enum-told
     stopped-requires-2
