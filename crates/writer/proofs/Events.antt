@@ -1,7 +1,9 @@
 -- Event by event: what each writes, and what is written when all are passed.
+use mathlib.Core.Bool.{true}
 use mathlib.Core.List.{List, [], _∷_}
 use mathlib.Core.Path.{_≡_, refl, ap, _∙_}
-use Prim.Native.Nat.{ℕ, suc, _+_, _-_, _*_, _≤_, _<_}
+use Prim.Native.Nat.{ℕ, zero, suc, _+_, _-_, _*_, _≤_, _<_}
+use native.Mathlib.Nat.{suc-add, zero-add}
 use native.Mathlib.Numerals.{add-one}
 use native.Mathlib.Omega.{arith}
 use lib.ListN.{length, getD, drop}
@@ -9,12 +11,15 @@ use lib.Seq.{sets, length-sets}
 use Rattle.event.specs.Format.{maxOpen}
 use Rattle.written.specs.File.{flat, bytesAt, body}
 use Rattle.written.specs.FileLaws.{order-few}
-use Rattle.written.specs.Graph.{Scalar, Kind, Piece, scalar, start, end, val, same, number, emission}
-use Rattle.written.specs.Nub.{has, nub, nubOnto}
+use Rattle.written.specs.Graph.{Scalar, Kind, Piece, scalar, start, end, Name, val, same, number, emission}
+use Rattle.written.specs.NameLaws.{In, in-here, in-left, in-right, same-sound}
+use Rattle.written.specs.Nub.{has, nub, nubOnto, nub-has}
 use Rattle.written.specs.NumberLaws.{number-lt}
+use Rattle.written.specs.RepLaws.{rep-same}
 use Rattle.written.specs.Shape.{skip, nextAt}
 use Rattle.written.specs.ShapeLaws.{next-scalar, next-start, next-end, closed-at}
 use Rattle.written.specs.Upto.{spokenUpto}
+use Rattle.written.specs.UptoLaws.{spoken-more, spoken-scalar}
 use Rattle.written.specs.Weigh.{repOf}
 use Rattle.writer.specs.ClearLaws.{length-cleared, cleared-in, cleared-below}
 use Rattle.writer.specs.Columns.{Indexed, cleared}
@@ -61,6 +66,13 @@ module _ {t w out : List ℕ} {n e width pos : ℕ} (o : Told t w out n e width 
       go (start k) d = (k, drop (suc e) (piecesIn t), d, omega (arith, far k _ d .0))
       go end d = absurd (g (next-is ∙ next-end (piecesIn t) e _ d))
 
+-- what is spoken before an event is spoken before every later one
+spoken-kept : {t : List ℕ} {n : ℕ} → Ready t n → (x : Name) (j k : ℕ) → k + j ≤ n → In x (spokenUpto j 0 (piecesIn t)) → In x (spokenUpto (k + j) 0 (piecesIn t))
+spoken-kept ready x j zero l h = rw zero-add h
+spoken-kept {t} ready x j (suc k) l h =
+    let (p, d) = piece-at ready (k + j) (omega arith) in
+    rw (suc-add k j, spoken-more (piecesIn t) (k + j) p _ d) (in-left x (spokenUpto (k + j) 0 (piecesIn t)) _ (spoken-kept ready x j k (omega arith) h))
+
 module _ {t w out : List ℕ} {n e width pos : ℕ} (o : Told t w out n e width pos) (r : List Piece) where
   pub scalar-single : (s : Scalar) → drop e (piecesIn t) ≡ scalar s ∷ r → Single t w out n e pos (saidAt t e) s
   scalar-single s d =
@@ -75,6 +87,19 @@ module _ {t w out : List ℕ} {n e width pos : ℕ} (o : Told t w out n e width 
 
   pub scalar-grown : (s : Scalar) → drop e (piecesIn t) ≡ scalar s ∷ r → {v a : List ℕ} {j : ℕ} → Grown t n (saidAt t e) out pos (nubOnto same (saidAt t e) (val s ∷ [])) v a j → Spoke t n e out pos v a j
   scalar-grown s d g = rw (at-scalar (piecesIn t) e s r d) g
+
+  -- a scalar that an earlier event is equal to is written
+  pub again-grown : (s : Scalar) → drop e (piecesIn t) ≡ scalar s ∷ r → {first : ℕ} → first ≡ getD w (n + e) 0 → first < e → Spoke t n e out pos w out pos
+  unfolding writtenAt nubOnto
+  again-grown s d {first} is h =
+      let es = piecesIn t in
+      let rep = is ∙ o .stand .indexed .rep e (scalar s) r (o .within) d in
+      let (q, there) = rep-same es e s r d in
+      let spoke : In (val s) (spokenUpto (suc first) 0 es) = rw (spoken-scalar es first s q (rw rep there)) (in-right (val s) (spokenUpto first 0 es) (val s ∷ []) (in-here (val s) [])) in
+      let gap : e - suc first + suc first ≡ e = omega arith in
+      let kept : In (val s) (spokenUpto e 0 es) = rw gap at (spoken-kept (o .stand .ready) (val s) (suc first) (e - suc first) (omega (arith, o .within)) spoke) in
+      let i : has same (val s) (saidAt t e) ≡ true = nub-has same same-sound (val s) (spokenUpto e 0 es) ∙ kept in
+      scalar-grown s d (rw i (grown-none (o .stand) out))
 
   pub end-grown : drop e (piecesIn t) ≡ end ∷ r → Spoke t n e out pos w out pos
   end-grown d = rw (at-end (piecesIn t) e r d) (grown-none (o .stand) out)

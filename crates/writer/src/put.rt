@@ -56,7 +56,8 @@ fn put_objects(tape: &[u8], work: &mut [u32], n: usize, width: usize, out: &mut 
     }
 }
 
-// What an event writes: itself, unless it is written already or an end; of a dictionary also its keys.
+// What an event writes: itself, unless it is written already or an end; of a dictionary also its keys. An equal scalar before it has been
+// written with its own event at the latest.
 fn put_event(
     tape: &[u8],
     work: &mut [u32],
@@ -71,6 +72,9 @@ fn put_event(
 {
     let next = word(work, n + n + e);
     if next == e + 1 {
+        if word(work, n + e) < e {
+            return pos;
+        }
         return put_once(tape, work, n, e, out, pos);
     }
     if next == 0 {
