@@ -135,6 +135,12 @@ use Rattle.tape.proofs.append.put_kind.Kinds as put-kind-kinds
 use Rattle.tape.proofs.append.put_kind.Reads as put-kind-reads
 use Rattle.tape.proofs.append.put_number.Kinds as put-number-kinds
 use Rattle.tape.proofs.append.put_number.Reads as put-number-reads
+use Rattle.tape.proofs.append.put_boolean.Kinds as put-boolean-kinds
+use Rattle.tape.proofs.append.put_boolean.Reads as put-boolean-reads
+use Rattle.tape.proofs.append.put_integer.Kinds as put-integer-kinds
+use Rattle.tape.proofs.append.put_integer.Reads as put-integer-reads
+use Rattle.tape.proofs.append.put_eight.Kinds as put-eight-kinds
+use Rattle.tape.proofs.append.put_eight.Reads as put-eight-reads
 
 is-date-one : One 0 is-date-kinds.ps is-date-kinds.r is-date-reads.Post (Unit {0}) (λ κs e. tt)
 is-date-one κs a x y e f p q = (p ∙ sym q, refl)
@@ -286,6 +292,15 @@ put-kind-one κs a x y e f p q = (said-one x y (p .0 ∙ sym (q .0)), p .1 ∙ s
 
 put-number-one : One 1 put-number-kinds.ps put-number-kinds.r put-number-reads.Post (List ℕ) (λ κs e. now (e .0))
 put-number-one κs a x y e f p q = (said-one x y (p .0 ∙ sym (q .0)), p .1 ∙ sym (q .1))
+
+put-boolean-one : One 1 put-boolean-kinds.ps put-boolean-kinds.r put-boolean-reads.Post (List ℕ) (λ κs e. now (e .0))
+put-boolean-one κs a x y e f p q = (said-one x y (p .0 ∙ sym (q .0)), p .1 ∙ sym (q .1))
+
+put-integer-one : One 1 put-integer-kinds.ps put-integer-kinds.r put-integer-reads.Post (List ℕ) (λ κs e. now (e .0))
+put-integer-one κs a x y e f p q = (said-one x y (p .0 ∙ sym (q .0)), p .1 ∙ sym (q .1))
+
+put-eight-one : One 1 put-eight-kinds.ps put-eight-kinds.r put-eight-reads.Post (List ℕ) (λ κs e. now (e .0))
+put-eight-one κs a x y e f p q = (said-one x y (p .0 ∙ sym (q .0)), p .1 ∙ sym (q .1))
 
 transcribe-one : One 3 transcribe-kinds.ps transcribe-kinds.r transcribe-reads.Post (record { tape : List ℕ; scratch : List ℕ }) (λ κs e. record { tape = now (e .1 .1 .0); scratch = now (e .1 .0) })
 transcribe-one κs a x y e f p q =
