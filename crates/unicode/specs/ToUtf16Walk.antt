@@ -81,7 +81,8 @@ units-of v =
           ]
     ]
 
-units-append : (s t : List ℕ) → unitsIn (s ++ t) ≡ unitsIn s + unitsIn t
+-- what bytes in front add
+pub units-append : (s t : List ℕ) → unitsIn (s ++ t) ≡ unitsIn s + unitsIn t
 unfolding unitsIn
 units-append [] t = sym (zero-add (unitsIn t))
 units-append (b ∷ s) t = rw (units-append s t, add-assoc)
