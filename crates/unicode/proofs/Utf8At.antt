@@ -10,7 +10,7 @@ use lib.ListN.{length, drop, getD, length-append, length-drop}
 use lib.Seq.{getD-drop, drop-drop, drop-append-seam}
 use Rattle.unicode.specs.Unicode.{isScalar, utf8Of, isUtf8}
 use Rattle.unicode.specs.ScalarLaws.{scalar-lt, utf8-size, utf8-one, utf8-two, utf8-three, utf8-four}
-use Rattle.unicode.specs.ToUtf16Walk.{ScalarAt, First, first}
+use Rattle.unicode.specs.ToUtf16Walk.{ScalarAt, First, first, value2, value3, value4}
 
 -- the first byte b of a sequence says how many bytes n it has, and they give the scalar value v
 pub record Coded (v n b c d e : ℕ) : Type 0 where
@@ -87,16 +87,6 @@ module _ (s : List ℕ) (i : ℕ) (more : i < length s) where
 
   pub here : isUtf8 (drop i s) ≡ true → Here s i
   here g = here-of (first (drop i s) g (rw (length-drop i s) (omega arith)))
-
--- the scalar value of two, three or four bytes from i on
-abbrev pub value2 : List ℕ → ℕ → ℕ
-value2 s i = getD s i 0 % 0x20 * 0x40 + getD s (i + 1) 0 % 0x40
-
-abbrev pub value3 : List ℕ → ℕ → ℕ
-value3 s i = (getD s i 0 % 0x10 * 0x40 + getD s (i + 1) 0 % 0x40) * 0x40 + getD s (i + 2) 0 % 0x40
-
-abbrev pub value4 : List ℕ → ℕ → ℕ
-value4 s i = ((getD s i 0 % 8 * 0x40 + getD s (i + 1) 0 % 0x40) * 0x40 + getD s (i + 2) 0 % 0x40) * 0x40 + getD s (i + 3) 0 % 0x40
 
 -- the first byte says which
 module _ (s : List ℕ) (i : ℕ) (good : isUtf8 (drop i s) ≡ true) (more : i < length s) where

@@ -7,7 +7,7 @@ use native.Mathlib.Nat.{add-assoc, zero-add}
 use native.Mathlib.Decide.{decLt}
 use native.Mathlib.Omega.{arith}
 use lib.Dec.{ltb, lit≤}
-use lib.ListN.{length, drop, length-append}
+use lib.ListN.{length, drop, getD, length-append}
 use borrow.Author.Tests.{lt-ltb, le-ltb}
 use Rattle.unicode.specs.Tests.{cond-yes, cond-no}
 use Rattle.unicode.specs.Unicode.{isScalar, utf8Of, utf8, utf16Of, utf16, isUtf8, scalars8, unitBytes, toUtf16}
@@ -23,6 +23,16 @@ pub record ScalarAt (s : List ℕ) (i v j : ℕ) : Type 0 where
   pub scalar : isScalar v ≡ true
   pub good : isUtf8 (drop j s) ≡ true
   pub text : toUtf16 (drop i s) ≡ unitBytes (utf16Of v) ++ toUtf16 (drop j s)
+
+-- the scalar value of two, three or four bytes from i on
+abbrev pub value2 : List ℕ → ℕ → ℕ
+value2 s i = getD s i 0 % 0x20 * 0x40 + getD s (i + 1) 0 % 0x40
+
+abbrev pub value3 : List ℕ → ℕ → ℕ
+value3 s i = (getD s i 0 % 0x10 * 0x40 + getD s (i + 1) 0 % 0x40) * 0x40 + getD s (i + 2) 0 % 0x40
+
+abbrev pub value4 : List ℕ → ℕ → ℕ
+value4 s i = ((getD s i 0 % 8 * 0x40 + getD s (i + 1) 0 % 0x40) * 0x40 + getD s (i + 2) 0 % 0x40) * 0x40 + getD s (i + 3) 0 % 0x40
 
 -- Counting.
 

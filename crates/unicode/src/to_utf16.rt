@@ -5,23 +5,17 @@ ghost use mathlib.Core.Path.{_≡_};
 ghost use mathlib.Core.Bool.{true};
 ghost use mathlib.Core.List.{[], _∷_};
 ghost use Prim.Native.Nat.{_+_, _*_, _/_, _%_, _≤_, _<_};
-ghost use lib.ListN.{length, getD, drop};
+ghost use lib.ListN.{length, getD};
 ghost use lib.Seq.{sets};
 ghost use Rattle.unicode.specs.Unicode.{isUtf8, utf16Of, unitBytes, toUtf16};
 ghost use Rattle.unicode.specs.Changed.{changedOf, changedTo};
 ghost use Rattle.unicode.specs.ToUtf16.{utf16UnitsOf, unitsFrom, unitsIn};
-ghost use Rattle.unicode.specs.ToUtf16Walk.{ScalarAt};
+ghost use Rattle.unicode.specs.ToUtf16Walk.{ScalarAt, value2, value3, value4};
 
 // How many units a text has in UTF-16.
 pub enum Units {
     Count(usize),
     NotUtf8,
-}
-
-// A scalar value, and where the next one begins.
-struct Scalar {
-    value: u32,
-    next: usize,
 }
 
 // The number of units of a text. What is to be changed is seldom a few ASCII bytes, so it goes straight to the check.
@@ -83,7 +77,7 @@ fn units_from(b: u8) -> u8
     (b < 0x80) as u8 + (0xC0 <= b) as u8 + (0xF0 <= b) as u8
 }
 
-// Each scalar value of a text in turn, where there is room for all.
+// Each scalar value of a text in turn, where there is room for all. The first byte says how many bytes it has; each way stores its units itself.
 fn write_utf16(s: &[u8], out: &mut [u8])
     requires { ⌜ (isUtf8 (now s) ≡ true) × (length (toUtf16 (now s)) ≤ length (now out)) ⌝ }
     ensures { λ _. ⌜ now (out .exit) ≡ sets (now (out .entry)) 0 (toUtf16 (now (s .entry))) ⌝ }
@@ -91,40 +85,54 @@ fn write_utf16(s: &[u8], out: &mut [u8])
     let mut i: usize = 0;
     let mut at: usize = 0;
     while i < s.len() {
-        let c = scalar_at(s, i);
-        at = put_units(out, at, c.value);
-        i = c.next;
+        let b = s[i];
+        if b < 0x80 {
+            put_one(out, at, b as u32);
+            at += 2;
+            i += 1;
+            continue;
+        }
+        if b < 0xE0 {
+            put_one(out, at, two_bytes(s, i));
+            at += 2;
+            i += 2;
+            continue;
+        }
+        if b < 0xF0 {
+            put_one(out, at, three_bytes(s, i));
+            at += 2;
+            i += 3;
+            continue;
+        }
+        at = put_units(out, at, four_bytes(s, i));
+        i += 4;
     }
 }
 
-// The scalar value that begins at i, where the text from there on is well formed.
-fn scalar_at(s: &[u8], i: usize) -> Scalar
-    requires { ⌜ (isUtf8 (drop i (now s)) ≡ true) × (i < length (now s)) ⌝ }
-    ensures { λ r. ⌜ ScalarAt (now (s .entry)) i (r .value) (r .next) ⌝ }
+// The scalar value of two, three or four bytes that begins at i, where the text from there on is well formed.
+fn two_bytes(s: &[u8], i: usize) -> u32
+    requires { ⌜ ScalarAt (now s) i (value2 (now s) i) (i + 2) ⌝ }
+    ensures { λ r. ⌜ (r ≡ value2 (now (s .entry)) i) × (r < 0x10000) ⌝ }
 {
-    let b = s[i] as u32;
-    if b < 0x80 {
-        return Scalar {
-            value: b,
-            next: i + 1,
-        };
-    }
-    if b < 0xE0 {
-        return Scalar {
-            value: six_more(b % 0x20, s, i + 1),
-            next: i + 2,
-        };
-    }
-    if b < 0xF0 {
-        return Scalar {
-            value: six_more(six_more(b % 0x10, s, i + 1), s, i + 2),
-            next: i + 3,
-        };
-    }
-    Scalar {
-        value: six_more(six_more(six_more(b % 8, s, i + 1), s, i + 2), s, i + 3),
-        next: i + 4,
-    }
+    six_more(s[i] as u32 % 0x20, s, i + 1)
+}
+
+fn three_bytes(s: &[u8], i: usize) -> u32
+    requires { ⌜ ScalarAt (now s) i (value3 (now s) i) (i + 3) ⌝ }
+    ensures { λ r. ⌜ (r ≡ value3 (now (s .entry)) i) × (r < 0x10000) ⌝ }
+{
+    six_more(six_more(s[i] as u32 % 0x10, s, i + 1), s, i + 2)
+}
+
+fn four_bytes(s: &[u8], i: usize) -> u32
+    requires { ⌜ ScalarAt (now s) i (value4 (now s) i) (i + 4) ⌝ }
+    ensures { λ r. ⌜ r ≡ value4 (now (s .entry)) i ⌝ }
+{
+    six_more(
+        six_more(six_more(s[i] as u32 % 8, s, i + 1), s, i + 2),
+        s,
+        i + 3,
+    )
 }
 
 // A scalar value's bits so far, and the six that a later byte adds.
@@ -149,6 +157,14 @@ fn put_units(out: &mut [u8], at: usize, v: u32) -> usize
     put_unit(out, at, 0xD800 + above / 0x400);
     put_unit(out, at + 2, 0xDC00 + above % 0x400);
     at + 4
+}
+
+// The one unit of a scalar value below 10000.
+fn put_one(out: &mut [u8], at: usize, v: u32)
+    requires { ⌜ (at + 2 ≤ length (now out)) × (v < 0x10000) ⌝ }
+    ensures { λ _. ⌜ now (out .exit) ≡ sets (now (out .entry)) at (unitBytes (utf16Of v)) ⌝ }
+{
+    put_unit(out, at, v);
 }
 
 // A unit is two bytes, the high one first.
