@@ -1,4 +1,3 @@
-pub mod Utf8At
 pub mod Units
 pub mod Count
 pub mod Scalars

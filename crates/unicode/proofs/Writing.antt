@@ -18,11 +18,12 @@ pub record Writing (good : List ℕ → Bool) (text : List ℕ → List ℕ) (s 
   pub inside : i ≤ length s
   pub valid : good (drop i s) ≡ true
   pub room : at + length (text (drop i s)) ≤ length out
+  pub total : at + length (text (drop i s)) ≡ length (text s)
   pub same : sets out at (text (drop i s)) ≡ sets out₀ 0 (text s)
 
 module _ (good : List ℕ → Bool) (text : List ℕ → List ℕ) where
   pub writing-start : (s out : List ℕ) → good s ≡ true → length (text s) ≤ length out → Writing good text s out out 0 0
-  writing-start s out g h = record { inside = omega arith; valid = g; room = omega arith; same = refl }
+  writing-start s out g h = record { inside = omega arith; valid = g; room = omega arith; total = omega arith; same = refl }
 
   module _ (s out₀ out : List ℕ) (i at : ℕ) (w : Writing good text s out₀ out i at) where
     -- p comes next, and then what the bytes from j on become
@@ -38,6 +39,7 @@ module _ (good : List ℕ → Bool) (text : List ℕ → List ℕ) where
         inside = h;
         valid = g;
         room = rw (length-sets out at p) (omega (arith, size, w .room));
+        total = omega (arith, size, w .total);
         same = sym (sets-append p (text (drop j s)) out at) ∙ rw (← e) (w .same);
       }
 
@@ -45,8 +47,10 @@ module _ (good : List ℕ → Bool) (text : List ℕ → List ℕ) where
     pub writing-length : length out ≡ length out₀
     writing-length = sym (length-sets out at (text (drop i s))) ∙ ap length (w .same) ∙ length-sets out₀ 0 (text s)
 
-    -- nothing is left
+    -- nothing is left to write
+    pub writing-done : text (drop i s) ≡ [] → (at ≡ length (text s)) × (out ≡ sets out₀ 0 (text s))
+    writing-done e = (omega (arith, ap length e, w .total), rw e at (w .same))
+
+    -- nothing is left to read
     pub writing-end : length s ≤ i → text [] ≡ [] → out ≡ sets out₀ 0 (text s)
-    writing-end h e =
-        let f : sets out at (text []) ≡ sets out₀ 0 (text s) = rw (drop-of-length-le s {i = i} h) at (w .same) in
-        rw e at f
+    writing-end h e = writing-done (rw (drop-of-length-le s {i = i} h) e) .1

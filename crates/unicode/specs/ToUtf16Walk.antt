@@ -2,37 +2,32 @@
 use mathlib.Core.Bool.{Bool, true, false, cond}
 use mathlib.Core.Path.{_≡_, refl, sym, ap, _∙_}
 use mathlib.Core.List.{List, [], _∷_, _++_}
-use Prim.Native.Nat.{ℕ, _+_, _*_, _/_, _%_, _≤_, _<_}
+use Prim.Native.Nat.{ℕ, zero, suc, _+_, _-_, _*_, _/_, _%_, _≤_, _<_}
 use native.Mathlib.Nat.{add-assoc, zero-add}
 use native.Mathlib.Decide.{decLt}
 use native.Mathlib.Omega.{arith}
-use lib.Dec.{ltb, lit≤}
-use lib.ListN.{length, drop, getD, length-append}
+use lib.Dec.{ltb, eqb, lit≤}
+use lib.ListN.{length, drop, getD, length-append, length-drop, drop-of-length-le}
 use borrow.Author.Tests.{lt-ltb, le-ltb}
-use Rattle.unicode.specs.Tests.{cond-yes, cond-no}
-use Rattle.unicode.specs.Unicode.{isScalar, utf8Of, utf8, utf16Of, utf16, isUtf8, scalars8, unitBytes, toUtf16}
-use Rattle.unicode.specs.ToUtf16.{utf16UnitsOf, unitsFrom, unitsIn}
-use Rattle.unicode.specs.declared.to_utf16.Units.the-variants.{Count, NotUtf8}
-use Rattle.unicode.specs.ScalarLaws.{scalar-cons, utf8-one, utf8-two, utf8-three, utf8-four, utf16-one, utf16-two}
-use Rattle.unicode.specs.Utf8Bits.{utf8-scalar, utf8-again, utf8-is, scalars-again}
+use Rattle.unicode.specs.Left.{left-at}
+use Rattle.unicode.specs.Unicode.{utf8Of, utf8, utf16Of, utf16, isUtf8, scalarsFrom, scalars8, unitBytes, toUtf16}
+use Rattle.unicode.specs.ToUtf16.{unitsFrom, unitsIn}
+use Rattle.unicode.specs.ScalarLaws.{utf8-one, utf8-two, utf8-three, utf8-four, utf16-one, utf16-two}
+use Rattle.unicode.specs.Utf8Bits.{followers, firstBits, first-one, first-two, first-three, first-four, scalars-first, scalars-one, scalars-last, scalars-next, utf8-again}
 
--- the scalar value v begins at i, and the text goes on well formed at j
-pub record ScalarAt (s : List ℕ) (i v j : ℕ) : Type 0 where
-  pub more : i < j
-  pub inside : j ≤ length s
-  pub scalar : isScalar v ≡ true
-  pub good : isUtf8 (drop j s) ≡ true
-  pub text : toUtf16 (drop i s) ≡ unitBytes (utf16Of v) ++ toUtf16 (drop j s)
-
--- the scalar value of two, three or four bytes from i on
+-- the value of two, three or four bytes from i on
 abbrev pub value2 : List ℕ → ℕ → ℕ
-value2 s i = getD s i 0 % 0x20 * 0x40 + getD s (i + 1) 0 % 0x40
+value2 s i = (getD s i 0 - 0xC0) * 0x40 + (getD s (i + 1) 0 - 0x80)
 
 abbrev pub value3 : List ℕ → ℕ → ℕ
-value3 s i = (getD s i 0 % 0x10 * 0x40 + getD s (i + 1) 0 % 0x40) * 0x40 + getD s (i + 2) 0 % 0x40
+value3 s i = ((getD s i 0 - 0xE0) * 0x40 + (getD s (i + 1) 0 - 0x80)) * 0x40 + (getD s (i + 2) 0 - 0x80)
 
 abbrev pub value4 : List ℕ → ℕ → ℕ
-value4 s i = ((getD s i 0 % 8 * 0x40 + getD s (i + 1) 0 % 0x40) * 0x40 + getD s (i + 2) 0 % 0x40) * 0x40 + getD s (i + 3) 0 % 0x40
+value4 s i = (((getD s i 0 - 0xF0) * 0x40 + (getD s (i + 1) 0 - 0x80)) * 0x40 + (getD s (i + 2) 0 - 0x80)) * 0x40 + (getD s (i + 3) 0 - 0x80)
+
+-- the value of so many bytes from i on
+unfoldable pub valueAt : List ℕ → ℕ → ℕ → ℕ
+valueAt s i n = cond (eqb n 2) (value2 s i) (cond (eqb n 3) (value3 s i) (cond (eqb n 4) (value4 s i) (getD s i 0)))
 
 -- Counting.
 
@@ -123,22 +118,6 @@ pub length-utf16 : (s : List ℕ) → length (toUtf16 s) ≡ length (utf16 (scal
 unfolding toUtf16
 length-utf16 s = length-unitBytes (utf16 (scalars8 s))
 
--- What the measured number tells.
-
-module _ (s : List ℕ) where
-  -- a number: this is UTF-8, and its text in UTF-16 has two bytes for each unit
-  pub measured : (n : ℕ) → utf16UnitsOf s ≡ Count n → (isUtf8 s ≡ true) × (length (toUtf16 s) ≡ n * 2)
-  unfolding utf16UnitsOf
-  measured n h =
-      let m = cond-yes (isUtf8 s) (Count (length (utf16 (scalars8 s)))) NotUtf8 (Count n) h (λ (e : NotUtf8 ≡ Count n). let z : _≡_ {A = ℕ} 0 1 = cc in absurd (omega arith)) in
-      let k : length (utf16 (scalars8 s)) ≡ n = cc in
-      (m .0, length-utf16 s ∙ rw k)
-
-  -- none: this is no UTF-8
-  pub not-measured : utf16UnitsOf s ≡ NotUtf8 → isUtf8 s ≡ false
-  unfolding utf16UnitsOf
-  not-measured h = cond-no (isUtf8 s) (Count (length (utf16 (scalars8 s)))) NotUtf8 NotUtf8 h (λ (e : Count (length (utf16 (scalars8 s))) ≡ NotUtf8). let z : _≡_ {A = ℕ} 0 1 = cc in absurd (omega arith))
-
 -- One scalar value after another.
 
 unitBytes-append : (us ws : List ℕ) → unitBytes (us ++ ws) ≡ unitBytes us ++ unitBytes ws
@@ -146,28 +125,139 @@ unfolding unitBytes
 unitBytes-append [] ws = refl
 unitBytes-append (u ∷ us) ws = ap (λ (l : List ℕ). (u / 256) ∷ (u % 256) ∷ l) (unitBytes-append us ws)
 
--- text that is not empty is a scalar value, and text after it
-pub record First (a : List ℕ) : Type 0 where
-  pub value : ℕ
-  pub rest : List ℕ
-  pub scalar : isScalar value ≡ true
-  pub good : isUtf8 rest ≡ true
-  pub bytes : a ≡ utf8Of value ++ rest
-  pub text : toUtf16 a ≡ unitBytes (utf16Of value) ++ toUtf16 rest
+-- Any bytes, a sequence at a time.
 
-pub first : (a : List ℕ) → isUtf8 a ≡ true → 0 < length a → First a
-unfolding utf8 utf16 toUtf16
-first a h k = go (scalars8 a) refl
-  where
-    go : (vs : List ℕ) → scalars8 a ≡ vs → First a
-    go [] e = absurd (omega (arith, ap length (rw e at (utf8-again a h))))
-    go (v ∷ vs) e =
-        let c = scalar-cons v vs (rw e at (utf8-scalar a h)) in
-        record {
-          value = v;
-          rest = utf8 vs;
-          scalar = c .0;
-          good = utf8-is vs (c .1);
-          bytes = sym (rw e at (utf8-again a h));
-          text = rw (e, scalars-again vs (c .1)) (unitBytes-append (utf16Of v) (utf16 vs));
-        }
+-- too few bytes for what is still to come
+too-few : (k v : ℕ) (s : List ℕ) → length s < k → scalarsFrom k v s ≡ []
+unfolding scalarsFrom
+too-few k v [] h = refl
+too-few zero v (b ∷ s) h = absurd (omega arith)
+too-few (suc zero) v (b ∷ s) h = absurd (omega arith)
+too-few (suc (suc k)) v (b ∷ s) h = scalars-next k v b s ∙ too-few (suc k) (v * 0x40 + (b - 0x80)) s (omega arith)
+
+-- the sequence of n bytes at i, where they are all there, and where they are not
+pub record Sequence (s : List ℕ) (i n : ℕ) : Type 0 where
+  pub some : 1 ≤ n
+  pub whole : i + n ≤ length s → scalars8 (drop i s) ≡ valueAt s i n ∷ scalars8 (drop (i + n) s)
+  pub cut : length s < i + n → scalars8 (drop i s) ≡ []
+
+module _ (s : List ℕ) (i : ℕ) (more : i < length s) where
+  next : (k : ℕ) → i + k < length s → drop (i + k) s ≡ getD s (i + k) 0 ∷ drop (i + (k + 1)) s
+  next k h =
+      let e : i + k + 1 ≡ i + (k + 1) = omega arith in
+      rw e at (left-at s (i + k) h)
+
+  cut-of : 0x80 ≤ getD s i 0 → length s < i + (followers (getD s i 0) + 1) → scalars8 (drop i s) ≡ []
+  unfolding scalars8
+  cut-of l h = rw (left-at s i more) (scalars-first 0 (getD s i 0) _ l ∙ too-few _ _ _ (omega (arith, length-drop (i + 1) s)))
+
+  one-at : getD s i 0 < 0x80 → scalars8 (drop i s) ≡ getD s i 0 ∷ scalars8 (drop (i + 1) s)
+  unfolding scalars8
+  one-at h = rw (left-at s i more) (scalars-one 0 (getD s i 0) _ h)
+
+  module _ (l : 0x80 ≤ getD s i 0) where
+    first-at : scalars8 (drop i s) ≡ scalarsFrom (followers (getD s i 0)) (firstBits (getD s i 0)) (drop (i + 1) s)
+    unfolding scalars8
+    first-at = rw (left-at s i more) (scalars-first 0 (getD s i 0) _ l)
+
+    two-at : getD s i 0 < 0xE0 → i + 2 ≤ length s → scalars8 (drop i s) ≡ value2 s i ∷ scalars8 (drop (i + 2) s)
+    unfolding scalars8
+    two-at h g =
+        let f = first-two (getD s i 0) l h in
+        first-at ∙ rw (← f .0, f .1, next 1 (omega arith)) (scalars-last _ _ _)
+
+    three-at : 0xE0 ≤ getD s i 0 → getD s i 0 < 0xF0 → i + 3 ≤ length s → scalars8 (drop i s) ≡ value3 s i ∷ scalars8 (drop (i + 3) s)
+    unfolding scalars8
+    three-at m h g =
+        let f = first-three (getD s i 0) m h in
+        first-at ∙ rw (← f .0, f .1, next 1 (omega arith), next 2 (omega arith)) (scalars-next 0 _ _ _ ∙ scalars-last _ _ _)
+
+    four-at : 0xF0 ≤ getD s i 0 → i + 4 ≤ length s → scalars8 (drop i s) ≡ value4 s i ∷ scalars8 (drop (i + 4) s)
+    unfolding scalars8
+    four-at m g =
+        let f = first-four (getD s i 0) m in
+        first-at ∙ rw (← f .0, f .1, next 1 (omega arith), next 2 (omega arith), next 3 (omega arith)) (scalars-next 1 _ _ _ ∙ scalars-next 0 _ _ _ ∙ scalars-last _ _ _)
+
+  pub sequence : Sequence s i (followers (getD s i 0) + 1)
+  unfolding valueAt
+  sequence =
+      let b = getD s i 0 in
+      elim (decLt b 0x80) [
+        | yes p ↦ rw (← first-one b p .0) (record { some = omega arith; whole = λ h. one-at p; cut = λ h. absurd (omega arith) })
+        | no p ↦
+            let l : 0x80 ≤ b = omega arith in
+            record {
+              some = omega arith;
+              whole =
+                  elim (decLt b 0xE0) [
+                    | yes q ↦ rw (← first-two b l q .0) (two-at l q)
+                    | no q ↦
+                        let m : 0xE0 ≤ b = omega arith in
+                        elim (decLt b 0xF0) [
+                          | yes r ↦ rw (← first-three b m r .0) (three-at l m r)
+                          | no r ↦ rw (← first-four b (omega arith) .0) (four-at l (omega arith))
+                        ]
+                  ];
+              cut = cut-of l;
+            }
+      ]
+
+-- a value in front: its units, and those of what is left
+module _ (a b : List ℕ) (v : ℕ) (e : scalars8 a ≡ v ∷ scalars8 b) where
+  pub text-next : toUtf16 a ≡ unitBytes (utf16Of v) ++ toUtf16 b
+  unfolding toUtf16 utf16
+  text-next = rw e (unitBytes-append (utf16Of v) (utf16 (scalars8 b)))
+
+  pub units-next : length (utf16 (scalars8 a)) ≡ length (utf16Of v) + length (utf16 (scalars8 b))
+  unfolding utf16
+  units-next = rw e (length-append (utf16Of v) (utf16 (scalars8 b)))
+
+-- none: nothing
+module _ (a : List ℕ) (e : scalars8 a ≡ []) where
+  pub text-none : toUtf16 a ≡ []
+  unfolding toUtf16 utf16 unitBytes
+  text-none = rw e
+
+  pub units-none : length (utf16 (scalars8 a)) ≡ 0
+  unfolding utf16
+  units-none = rw e
+
+-- no bytes are left
+pub past-end : (s : List ℕ) (i : ℕ) → length s ≤ i → scalars8 (drop i s) ≡ []
+unfolding scalars8 scalarsFrom
+past-end s i h = rw (drop-of-length-le s {i = i} h)
+
+-- No byte gives more than one unit: only a sequence of several bytes has two.
+
+pub units-most : (v : ℕ) → length (utf16Of v) ≤ 2
+units-most v =
+    elim (decLt v 0x10000) [
+      | yes p ↦ rw (utf16-one v p) (omega arith)
+      | no p ↦ rw (utf16-two v (omega arith)) (omega arith)
+    ]
+
+-- inside a sequence one byte is read already
+abbrev already : ℕ → ℕ
+already zero = 0
+already (suc k) = 1
+
+already-le : (k : ℕ) → already k ≤ 1
+already-le zero = omega arith
+already-le (suc k) = omega arith
+
+units-left : (k v : ℕ) (s : List ℕ) → length (utf16 (scalarsFrom k v s)) ≤ length s + already k
+unfolding scalarsFrom utf16
+units-left k v [] = omega arith
+units-left zero v (b ∷ s) =
+    elim (decLt b 0x80) [
+      | yes p ↦ rw (scalars-one v b s p) (omega (arith, length-append (utf16Of b) (utf16 (scalarsFrom 0 0 s)), ap length (utf16-one b (omega arith)), units-left 0 0 s))
+      | no p ↦ rw (scalars-first v b s (omega arith)) (omega (arith, units-left (followers b) (firstBits b) s, already-le (followers b)))
+    ]
+units-left (suc zero) v (b ∷ s) =
+    let w : ℕ = v * 0x40 + (b - 0x80) in
+    omega (arith, length-append (utf16Of w) (utf16 (scalarsFrom 0 0 s)), units-most w, units-left 0 0 s)
+units-left (suc (suc k)) v (b ∷ s) = rw (scalars-next k v b s) (omega (arith, units-left (suc k) (v * 0x40 + (b - 0x80)) s))
+
+pub units-few : (s : List ℕ) → length (utf16 (scalars8 s)) ≤ length s
+unfolding scalars8
+units-few s = omega (arith, units-left 0 0 s)

@@ -17,10 +17,10 @@ use Rattle.unicode.specs.Utf8Laws.{first-in, first-out, utf8-append, asc
 use Rattle.unicode.specs.Interval.{values, on}
 
 -- how many bytes follow a first byte, and its bits
-unfoldable followers : ℕ → ℕ
+unfoldable pub followers : ℕ → ℕ
 followers b = cond (ltb b 0x80) 0 (cond (ltb b 0xE0) 1 (cond (ltb b 0xF0) 2 3))
 
-unfoldable firstBits : ℕ → ℕ
+unfoldable pub firstBits : ℕ → ℕ
 firstBits b = cond (ltb b 0x80) b (cond (ltb b 0xE0) (b - 0xC0) (cond (ltb b 0xF0) (b - 0xE0) (b - 0xF0)))
 
 -- whatever bytes lie within the ranges, they end a scalar value whose bits so far are v and whose bytes are p and they
@@ -52,21 +52,21 @@ found (((low to high) ∷ row) ∷ rows) g b rs e = go (leb low b) refl (leb b h
         rw (← m) (g .0 b (leb-true low b p) (leb-true b high q))
 
 -- a first byte's part in each width
-first-one : (b : ℕ) → b < 0x80 → (0 ≡ followers b) × (firstBits b ≡ b)
+pub first-one : (b : ℕ) → b < 0x80 → (0 ≡ followers b) × (firstBits b ≡ b)
 unfolding followers firstBits
 first-one b h = (rw (lt-ltb b 0x80 h), rw (lt-ltb b 0x80 h))
 
-first-two : (b : ℕ) → 0x80 ≤ b → b < 0xE0 → (1 ≡ followers b) × (firstBits b ≡ b - 0xC0)
+pub first-two : (b : ℕ) → 0x80 ≤ b → b < 0xE0 → (1 ≡ followers b) × (firstBits b ≡ b - 0xC0)
 unfolding followers firstBits
 first-two b h g = (rw (le-ltb b 0x80 h, lt-ltb b 0xE0 g), rw (le-ltb b 0x80 h, lt-ltb b 0xE0 g))
 
-first-three : (b : ℕ) → 0xE0 ≤ b → b < 0xF0 → (2 ≡ followers b) × (firstBits b ≡ b - 0xE0)
+pub first-three : (b : ℕ) → 0xE0 ≤ b → b < 0xF0 → (2 ≡ followers b) × (firstBits b ≡ b - 0xE0)
 unfolding followers firstBits
 first-three b h g =
     let k : 0x80 ≤ b = omega arith in
     (rw (le-ltb b 0x80 k, le-ltb b 0xE0 h, lt-ltb b 0xF0 g), rw (le-ltb b 0x80 k, le-ltb b 0xE0 h, lt-ltb b 0xF0 g))
 
-first-four : (b : ℕ) → 0xF0 ≤ b → (3 ≡ followers b) × (firstBits b ≡ b - 0xF0)
+pub first-four : (b : ℕ) → 0xF0 ≤ b → (3 ≡ followers b) × (firstBits b ≡ b - 0xF0)
 unfolding followers firstBits
 first-four b h =
     let k : 0x80 ≤ b = omega arith in
@@ -140,19 +140,19 @@ good-table = (
 )
 
 -- the scalar values of bytes, a byte at a time
-scalars-first : (v b : ℕ) (s : List ℕ) → 0x80 ≤ b → scalarsFrom 0 v (b ∷ s) ≡ scalarsFrom (followers b) (firstBits b) s
+pub scalars-first : (v b : ℕ) (s : List ℕ) → 0x80 ≤ b → scalarsFrom 0 v (b ∷ s) ≡ scalarsFrom (followers b) (firstBits b) s
 unfolding scalarsFrom followers firstBits
 scalars-first v b s h = rw (le-ltb b 0x80 h, scalarsFrom)
 
-scalars-one : (v b : ℕ) (s : List ℕ) → b < 0x80 → scalarsFrom 0 v (b ∷ s) ≡ b ∷ scalarsFrom 0 0 s
+pub scalars-one : (v b : ℕ) (s : List ℕ) → b < 0x80 → scalarsFrom 0 v (b ∷ s) ≡ b ∷ scalarsFrom 0 0 s
 unfolding scalarsFrom
 scalars-one v b s h = rw (lt-ltb b 0x80 h, scalarsFrom)
 
-scalars-last : (v b : ℕ) (s : List ℕ) → scalarsFrom 1 v (b ∷ s) ≡ (v * 0x40 + (b - 0x80)) ∷ scalarsFrom 0 0 s
+pub scalars-last : (v b : ℕ) (s : List ℕ) → scalarsFrom 1 v (b ∷ s) ≡ (v * 0x40 + (b - 0x80)) ∷ scalarsFrom 0 0 s
 unfolding scalarsFrom
 scalars-last v b s = refl
 
-scalars-next : (k v b : ℕ) (s : List ℕ) → scalarsFrom (suc (suc k)) v (b ∷ s) ≡ scalarsFrom (suc k) (v * 0x40 + (b - 0x80)) s
+pub scalars-next : (k v b : ℕ) (s : List ℕ) → scalarsFrom (suc (suc k)) v (b ∷ s) ≡ scalarsFrom (suc k) (v * 0x40 + (b - 0x80)) s
 unfolding scalarsFrom
 scalars-next k v b s = rw (le-ltb (suc k) 1 (omega arith), scalarsFrom)
 

@@ -4,13 +4,15 @@ use crate::utf8::walk_utf8;
 ghost use mathlib.Core.Path.{_≡_};
 ghost use mathlib.Core.Bool.{true};
 ghost use mathlib.Core.List.{[], _∷_};
-ghost use Prim.Native.Nat.{_+_, _*_, _/_, _%_, _≤_, _<_};
+ghost use Prim.Native.Nat.{_+_, _-_, _*_, _/_, _%_, _≤_, _<_};
+ghost use lib.Dec.{ltb};
 ghost use lib.ListN.{length, getD};
 ghost use lib.Seq.{sets};
-ghost use Rattle.unicode.specs.Unicode.{isUtf8, utf16Of, unitBytes, toUtf16};
+ghost use Rattle.unicode.specs.Unicode.{isUtf8, utf16Of, utf16, scalars8, unitBytes, toUtf16};
 ghost use Rattle.unicode.specs.Changed.{changedOf, changedTo};
 ghost use Rattle.unicode.specs.ToUtf16.{utf16UnitsOf, unitsFrom, unitsIn};
-ghost use Rattle.unicode.specs.ToUtf16Walk.{ScalarAt, value2, value3, value4};
+ghost use Rattle.unicode.specs.ToUtf16Walk.{valueAt, value2, value3, value4};
+ghost use Rattle.unicode.specs.Utf8Bits.{followers};
 
 // How many units a text has in UTF-16.
 pub enum Units {
@@ -56,19 +58,34 @@ fn few_units(part: &[u8]) -> u8
     count
 }
 
-// The text in UTF-16 at the start of the lent memory, where it is a text and fits. It is measured first, so that a refusal changes nothing.
+// The text in UTF-16 at the start of the lent memory, where it is a text and fits.
 pub fn utf8_to_utf16(s: &[u8], out: &mut [u8]) -> Changed
     ensures { λ r. ⌜ r ≡ changedOf (isUtf8 (now (s .entry))) (toUtf16 (now (s .entry))) (now (out .entry)) ⌝ }
     ensures { λ _. ⌜ now (out .exit) ≡ changedTo (isUtf8 (now (s .entry))) (toUtf16 (now (s .entry))) (now (out .entry)) ⌝ }
 {
-    let Units::Count(units) = utf16_units(s) else {
-        return Changed::NotText;
-    };
-    if out.len() / 2 < units {
+    if walk_utf8(s, 0) {
+        return utf8_to_utf16_unchecked(s, out);
+    }
+    Changed::NotText
+}
+
+// The same without a look at whether it is a text, for a caller that has checked it. Bytes that are no text become what the definition
+// makes of them. A refusal changes nothing.
+pub fn utf8_to_utf16_unchecked(s: &[u8], out: &mut [u8]) -> Changed
+    ensures { λ r. ⌜ r ≡ changedOf true (toUtf16 (now (s .entry))) (now (out .entry)) ⌝ }
+    ensures { λ _. ⌜ now (out .exit) ≡ changedTo true (toUtf16 (now (s .entry))) (now (out .entry)) ⌝ }
+{
+    if lacks_units(s, out.len() / 2) {
         return Changed::NoRoom;
     }
-    write_utf16(s, out);
-    Changed::Written(units * 2)
+    Changed::Written(write_utf16(s, out))
+}
+
+// Whether there are more units than there is room for. No byte gives more than one, so they are counted only where the bytes are more.
+fn lacks_units(s: &[u8], room: usize) -> bool
+    ensures { λ r. ⌜ r ≡ ltb room (length (utf16 (scalars8 (now (s .entry))))) ⌝ }
+{
+    room < s.len() && room < count_units(s)
 }
 
 fn units_from(b: u8) -> u8
@@ -77,75 +94,134 @@ fn units_from(b: u8) -> u8
     (b < 0x80) as u8 + (0xC0 <= b) as u8 + (0xF0 <= b) as u8
 }
 
-// Each scalar value of a text in turn, where there is room for all. The first byte says how many bytes it has; each way stores its units itself.
-fn write_utf16(s: &[u8], out: &mut [u8])
-    requires { ⌜ (isUtf8 (now s) ≡ true) × (length (toUtf16 (now s)) ≤ length (now out)) ⌝ }
+// The units of each value in turn, where there is room for all, and the place after them. Bytes that end inside a sequence give nothing for
+// it. Two bytes have a way of their own: most text that is not ASCII is made of them.
+fn write_utf16(s: &[u8], out: &mut [u8]) -> usize
+    requires { ⌜ length (toUtf16 (now s)) ≤ length (now out) ⌝ }
+    ensures { λ r. ⌜ r ≡ length (toUtf16 (now (s .entry))) ⌝ }
     ensures { λ _. ⌜ now (out .exit) ≡ sets (now (out .entry)) 0 (toUtf16 (now (s .entry))) ⌝ }
 {
     let mut i: usize = 0;
     let mut at: usize = 0;
     while i < s.len() {
-        let b = s[i];
-        if b < 0x80 {
-            put_one(out, at, b as u32);
-            at += 2;
-            i += 1;
-            continue;
+        let size = size_from(s[i]);
+        if s.len() - i < size {
+            return at;
         }
-        if b < 0xE0 {
+        if size == 2 {
             put_one(out, at, two_bytes(s, i));
             at += 2;
             i += 2;
             continue;
         }
-        if b < 0xF0 {
-            put_one(out, at, three_bytes(s, i));
-            at += 2;
-            i += 3;
-            continue;
+        at = put_units(out, at, value_at(s, i, size));
+        i += size;
+    }
+    at
+}
+
+// How many units any bytes give: the same walk, nothing stored.
+fn count_units(s: &[u8]) -> usize
+    ensures { λ r. ⌜ r ≡ length (utf16 (scalars8 (now (s .entry)))) ⌝ }
+{
+    let mut i: usize = 0;
+    let mut count: usize = 0;
+    while i < s.len() {
+        let size = size_from(s[i]);
+        if s.len() - i < size {
+            return count;
         }
-        at = put_units(out, at, four_bytes(s, i));
-        i += 4;
+        count += units_of(value_at(s, i, size));
+        i += size;
+    }
+    count
+}
+
+// How many bytes a sequence has that begins with this one.
+fn size_from(b: u8) -> usize
+    ensures { λ r. ⌜ r ≡ followers b + 1 ⌝ }
+{
+    if b < 0x80 {
+        return 1;
+    }
+    if b < 0xE0 {
+        return 2;
+    }
+    if b < 0xF0 {
+        return 3;
+    }
+    4
+}
+
+// The value of one to four bytes that begin at i.
+fn value_at(s: &[u8], i: usize, size: usize) -> u32
+    requires { ⌜ (0 < size) × (i + size ≤ length (now s)) ⌝ }
+    ensures { λ r. ⌜ (r ≡ valueAt (now (s .entry)) i size) × (r < 0x500000) ⌝ }
+{
+    match size {
+        2 => two_bytes(s, i),
+        3 => three_bytes(s, i),
+        4 => four_bytes(s, i),
+        _ => s[i] as u32,
     }
 }
 
-// The scalar value of two, three or four bytes that begins at i, where the text from there on is well formed.
+fn units_of(v: u32) -> usize
+    ensures { λ r. ⌜ r ≡ length (utf16Of v) ⌝ }
+{
+    if v < 0x10000 {
+        return 1;
+    }
+    2
+}
+
+// The value of two, three or four bytes that begin at i.
 fn two_bytes(s: &[u8], i: usize) -> u32
-    requires { ⌜ ScalarAt (now s) i (value2 (now s) i) (i + 2) ⌝ }
+    requires { ⌜ i + 2 ≤ length (now s) ⌝ }
     ensures { λ r. ⌜ (r ≡ value2 (now (s .entry)) i) × (r < 0x10000) ⌝ }
 {
-    six_more(s[i] as u32 % 0x20, s, i + 1)
+    six_more(above(s[i], 0xC0), s, i + 1)
 }
 
 fn three_bytes(s: &[u8], i: usize) -> u32
-    requires { ⌜ ScalarAt (now s) i (value3 (now s) i) (i + 3) ⌝ }
-    ensures { λ r. ⌜ (r ≡ value3 (now (s .entry)) i) × (r < 0x10000) ⌝ }
+    requires { ⌜ i + 3 ≤ length (now s) ⌝ }
+    ensures { λ r. ⌜ (r ≡ value3 (now (s .entry)) i) × (r < 0x500000) ⌝ }
 {
-    six_more(six_more(s[i] as u32 % 0x10, s, i + 1), s, i + 2)
+    six_more(six_more(above(s[i], 0xE0), s, i + 1), s, i + 2)
 }
 
 fn four_bytes(s: &[u8], i: usize) -> u32
-    requires { ⌜ ScalarAt (now s) i (value4 (now s) i) (i + 4) ⌝ }
-    ensures { λ r. ⌜ r ≡ value4 (now (s .entry)) i ⌝ }
+    requires { ⌜ i + 4 ≤ length (now s) ⌝ }
+    ensures { λ r. ⌜ (r ≡ value4 (now (s .entry)) i) × (r < 0x500000) ⌝ }
 {
     six_more(
-        six_more(six_more(s[i] as u32 % 8, s, i + 1), s, i + 2),
+        six_more(six_more(above(s[i], 0xF0), s, i + 1), s, i + 2),
         s,
         i + 3,
     )
 }
 
-// A scalar value's bits so far, and the six that a later byte adds.
+// A value's bits so far, and what a later byte adds.
 fn six_more(bits: u32, s: &[u8], i: usize) -> u32
-    requires { ⌜ (bits < 0x8000) × (i < length (now s)) ⌝ }
-    ensures { λ r. ⌜ r ≡ bits * 0x40 + getD (now (s .entry)) i 0 % 0x40 ⌝ }
+    requires { ⌜ (bits < 0x20000) × (i < length (now s)) ⌝ }
+    ensures { λ r. ⌜ (r ≡ bits * 0x40 + (getD (now (s .entry)) i 0 - 0x80)) × (r < bits * 0x40 + 0x80) ⌝ }
 {
-    bits * 0x40 + s[i] as u32 % 0x40
+    bits * 0x40 + above(s[i], 0x80)
+}
+
+// What a byte is above a bound; 0 where it is below.
+fn above(b: u8, bound: u8) -> u32
+    ensures { λ r. ⌜ r ≡ b - bound ⌝ }
+{
+    if b < bound {
+        return 0;
+    }
+    (b - bound) as u32
 }
 
 // The units of a scalar value from at on, and the place after them.
 fn put_units(out: &mut [u8], at: usize, v: u32) -> usize
-    requires { ⌜ (at + length (unitBytes (utf16Of v)) ≤ length (now out)) × (v < 0x110000) ⌝ }
+    requires { ⌜ (at + length (unitBytes (utf16Of v)) ≤ length (now out)) × (v < 0x500000) ⌝ }
     ensures { λ r. ⌜ r ≡ at + length (unitBytes (utf16Of v)) ⌝ }
     ensures { λ _. ⌜ now (out .exit) ≡ sets (now (out .entry)) at (unitBytes (utf16Of v)) ⌝ }
 {
