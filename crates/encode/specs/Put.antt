@@ -12,7 +12,7 @@ use Rattle.number.specs.Part.{part}
 use Rattle.tape.specs.Value.{numberAt}
 use Rattle.tape.specs.declared.value.Value.{Value}
 use Rattle.tape.specs.declared.value.Value.the-variants.{Of, NoValue}
-use Rattle.unicode.specs.Unicode.{isUtf8, toUtf16}
+use Rattle.unicode.specs.Unicode.{toUtf16}
 use Rattle.written.specs.Encoding.{integerBytes, headBytes}
 use Rattle.encode.specs.declared.put.Base.{Base}
 use Rattle.encode.specs.declared.put.Base.the-variants.{Data, Ascii, Utf16, Array, Dictionary}
@@ -62,9 +62,9 @@ runIn tape f NoValue = []
 unfoldable pub headed : ℕ → List ℕ → List ℕ
 headed base s = headBytes base (length s) ++ s
 
--- a text in UTF-16 behind a head of so many units; nothing where it is no text
+-- a text in UTF-16 behind a head of so many units; that it is a text is a matter of the tape's check
 unfoldable pub inUtf16 : ℕ → List ℕ → List ℕ
-inUtf16 units s = cond (isUtf8 s) (headBytes 0x60 units ++ toUtf16 s) []
+inUtf16 units s = headBytes 0x60 units ++ toUtf16 s
 
 -- a text: 0 units say that it is ASCII
 unfoldable pub textIn : List ℕ → ℕ → Value → List ℕ

@@ -103,7 +103,7 @@ module _ (tape : List ℕ) (q : List ℕ) where
       go false f =
           let n = length (utf16 (scalars8 s)) in
           let z : n ≡ 0 → ⊥ = λ (k : n ≡ 0). omega (arith, some-units s g f) in
-          rw (f, ne-eqb n 0 z) (run-there tape at (inUtf16 n) s q h e ∙ rw g)
+          rw (f, ne-eqb n 0 z) (run-there tape at (inUtf16 n) s q h e)
 
   there : (at : ℕ) (m : Meaning) → IsScalar m → OnTape m → drop at tape ≡ bytesFor m ++ q → bytesAt tape at (unitsFor m) ≡ scalarBytes m
   unfolding bytesFor allowed unitsFor scalarBytes integerBytes ofKind positive negative uidBytes headed bitsOf

@@ -8,7 +8,7 @@ use tape::room::lacks_room;
 use tape::value::Value;
 use tape::value::number_at;
 use unicode::changed::Changed;
-use unicode::to_utf16::utf8_to_utf16;
+use unicode::to_utf16::utf8_to_utf16_unchecked;
 ghost use mathlib.Core.List.{[], _∷_};
 ghost use mathlib.Core.Path.{_≡_};
 ghost use Prim.Native.Nat.{_+_, _-_, _≤_};
@@ -208,7 +208,7 @@ fn put_headed(out: &mut [u8], base: Base, bytes: &[u8]) -> usize
     start + bytes.len()
 }
 
-// The text goes first: it may be refused, and the head not.
+// The text goes first: it may lack room, and the head not. It is not looked at again: the tape's check is the one that does.
 fn put_utf16(out: &mut [u8], units: usize, text: &[u8]) -> usize
     ensures { λ r. ⌜ r ≡ putLength (now (out .entry)) (inUtf16 units (now (text .entry))) ⌝ }
     ensures { λ _. ⌜ now (out .exit) ≡ putInto (now (out .entry)) (inUtf16 units (now (text .entry))) ⌝ }
@@ -217,7 +217,7 @@ fn put_utf16(out: &mut [u8], units: usize, text: &[u8]) -> usize
     if out.len() < head {
         return 0;
     }
-    match utf8_to_utf16(text, &mut out[head..]) {
+    match utf8_to_utf16_unchecked(text, &mut out[head..]) {
         Changed::Written(length) => {
             write_head(out, Base::Utf16, units);
             head + length
