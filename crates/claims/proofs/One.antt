@@ -84,6 +84,8 @@ use Rattle.unicode.proofs.to_utf16.utf16_units.Kinds as utf16-units-kinds
 use Rattle.unicode.proofs.to_utf16.utf16_units.Reads as utf16-units-reads
 use Rattle.unicode.proofs.to_utf16.utf8_to_utf16.Kinds as utf8-to-utf16-kinds
 use Rattle.unicode.proofs.to_utf16.utf8_to_utf16.Reads as utf8-to-utf16-reads
+use Rattle.unicode.proofs.to_utf16.utf8_to_utf16_unchecked.Kinds as utf8-to-utf16-unchecked-kinds
+use Rattle.unicode.proofs.to_utf16.utf8_to_utf16_unchecked.Reads as utf8-to-utf16-unchecked-reads
 use Rattle.object.proofs.kind.kind_of.Kinds as kind-of-kinds
 use Rattle.object.proofs.kind.kind_of.Reads as kind-of-reads
 use Rattle.object.proofs.container.container_at.Kinds as container-at-kinds
@@ -216,6 +218,9 @@ utf16-units-one κs a x y e f p q = (p ∙ sym q, refl)
 
 utf8-to-utf16-one : One 2 utf8-to-utf16-kinds.ps utf8-to-utf16-kinds.r utf8-to-utf16-reads.Post (List ℕ) (λ κs e. now (e .1 .0))
 utf8-to-utf16-one κs a x y e f p q = (p .0 ∙ sym (q .0), p .1 ∙ sym (q .1))
+
+utf8-to-utf16-unchecked-one : One 2 utf8-to-utf16-unchecked-kinds.ps utf8-to-utf16-unchecked-kinds.r utf8-to-utf16-unchecked-reads.Post (List ℕ) (λ κs e. now (e .1 .0))
+utf8-to-utf16-unchecked-one κs a x y e f p q = (p .0 ∙ sym (q .0), p .1 ∙ sym (q .1))
 
 kind-of-one : One 0 kind-of-kinds.ps kind-of-kinds.r kind-of-reads.Post (Unit {0}) (λ κs e. tt)
 kind-of-one κs a x y e f p q = (p ∙ sym q, refl)
