@@ -95,7 +95,7 @@ fn units_from(b: u8) -> u8
 }
 
 // The units of each value in turn, where there is room for all, and the place after them. Bytes that end inside a sequence give nothing for
-// it. Two bytes have a way of their own: most text that is not ASCII is made of them.
+// it. Two bytes have a way of their own: they are one unit, which is stored without a test.
 fn write_utf16(s: &[u8], out: &mut [u8]) -> usize
     requires { ⌜ length (toUtf16 (now s)) ≤ length (now out) ⌝ }
     ensures { λ r. ⌜ r ≡ length (toUtf16 (now (s .entry))) ⌝ }
