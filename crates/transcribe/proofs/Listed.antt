@@ -5,15 +5,15 @@ use mathlib.Core.Path.{_≡_, refl, sym, ap, _∙_}
 use Prim.Native.Nat.{ℕ, zero, suc, _+_, _≤_, _<_}
 use native.Mathlib.Numerals.{add-one}
 use native.Mathlib.Omega.{arith}
-use borrow.Author.Tests.{eq-eqb, ne-eqb, eqb-true, eqb-false}
-use lib.Dec.{eqb}
+use borrow.Author.Tests.{eq-eqb, ne-eqb, eqb-true, eqb-false, ltb-true, ltb-false}
+use lib.Dec.{eqb, ltb}
 use lib.ListN.{length, length-set, set, getD, take, drop, drop-of-length-le}
 use lib.Seq.{map-set-same, take-suc-set, take-set-le, take-take, drop-cons}
 use Rattle.number.specs.Among.{among}
 use Rattle.layout.specs.Frame.{newFrame, noFrame, nextIn}
 use Rattle.layout.specs.declared.frame.Frame.{Frame}
 use Rattle.reader.specs.State.{memberOf}
-use Rattle.transcribe.specs.Walk.{Below}
+use Rattle.transcribe.specs.Walk.{Below, higherOf}
 
 abbrev pub objectOf : Frame → ℕ
 objectOf f = f .object
@@ -93,12 +93,23 @@ among-last (x ∷ xs) object n h o = go (eqb n x) refl (λ a. among-last xs obje
     go true e ih = absurd (true≢false (rw e at h))
     go false e ih = rw e (ih (rw e at h))
 
+-- the higher of two numbers is at or above both
+higher-bounds : (a b : ℕ) → (a ≤ higherOf a b) × (b ≤ higherOf a b)
+unfolding higherOf
+higher-bounds a b = go (ltb a b) refl
+  where
+    go : (t : Bool) → ltb a b ≡ t → (a ≤ cond (ltb a b) b a) × (b ≤ cond (ltb a b) b a)
+    go true e = rw e (omega (arith, ltb-true a b e), omega arith)
+    go false e = rw e (omega arith, ltb-false a b e)
+
 -- the bound of the open containers' numbers: one is closed, another one opens
 pub close-below : (depth top above : ℕ) (numbers : List ℕ) → top ≤ depth → Below above (take depth numbers) → Below above (take top numbers)
 close-below depth top above numbers le h n g = rw (← take-take top depth numbers le) (among-first top (take depth numbers) n (h n g))
 
-pub enter-below : (depth object above more : ℕ) (numbers : List ℕ) → depth < length numbers → above ≤ more → object + 1 ≤ more → Below above (take depth numbers) → Below more (take (depth + 1) (set numbers depth object))
-enter-below depth object above more numbers g le lt h n k = rw (add-one, take-suc-set numbers depth object g) (among-last (take depth numbers) object n (h n (omega arith)) (λ e. omega arith))
+pub enter-below : (depth object above more : ℕ) (numbers : List ℕ) → depth < length numbers → more ≡ higherOf above (object + 1) → Below above (take depth numbers) → Below more (take (depth + 1) (set numbers depth object))
+enter-below depth object above more numbers g is h n k =
+    let b = higher-bounds above (object + 1) in
+    rw (add-one, take-suc-set numbers depth object g) (among-last (take depth numbers) object n (h n (omega (arith, is, b .0))) (λ e. omega (arith, is, b .1)))
 
 -- what is left of a list decides with what was found before
 module _ (s : List ℕ) (n : ℕ) where

@@ -41,7 +41,7 @@ use Rattle.transcribe.specs.Run.{End, refused, Run, run, runOf, onward, 
 use Rattle.transcribe.specs.RunLaws.{run-onward}
 use Rattle.transcribe.specs.Said.{failSaid}
 use Rattle.transcribe.specs.HandedLaws.{scalar-given, start-bare}
-use Rattle.transcribe.specs.Walk.{Notable, dueNow, within}
+use Rattle.transcribe.specs.Walk.{Notable, Below, dueNow, within}
 use Rattle.transcribe.specs.declared.note.Failure.{Failure}
 use Rattle.transcribe.proofs.Listed.{Listed, listed-member, onward-listed, close-listed, enter-listed}
 use Rattle.transcribe.proofs.Calls.{plain-noted, call-refused, call-kept, call-failed, run-ended}
@@ -87,6 +87,8 @@ pub record Turn : Type 0 where
   pub file : List ℕ
   pub layout : Layout
   pub root : ℕ
+  pub scratch₀ : List ℕ
+  pub tape₀ : List ℕ
   pub left : ℕ
   pub scratch : List ℕ
   pub tape : List ℕ
@@ -95,19 +97,24 @@ pub record Turn : Type 0 where
   pub depth : ℕ
   pub frames : List Frame
   pub numbers : List ℕ
+  pub above : ℕ
   pub top : ℕ
   pub standing : Standing
   pub whole : Run
   pub short : length file ≤ maxLength
   pub few : layout .count < 2 ^ 32
   pub some : 0 < left
+  pub same-scratch : length scratch ≡ length scratch₀
+  pub same-tape : length tape ≡ length tape₀
   pub fits : depth ≤ maxOpen
+  pub first : depth ≡ 0 → frames ≡ replicate maxOpen noFrame
+  pub is : leftOf file layout root left scratch tape held place depth frames ≡ whole
   pub long : length frames ≡ maxOpen
-  pub many : length numbers ≡ maxOpen
   pub at : top ≡ depth - 1
   pub stands : Stands file layout standing depth frames
+  pub many : length numbers ≡ maxOpen
   pub listed : Listed depth frames numbers
-  pub is : leftOf file layout root left scratch tape held place depth frames ≡ whole
+  pub below : Below above (take depth numbers)
 
 module _ (x : Turn) where
   abbrev reads : Reader
@@ -302,14 +309,14 @@ module _ (x : Turn) where
   short-length object shape k offset f = omega (arith, x .short, measured (x .file) (x .layout) object shape k offset f)
 
   -- the innermost frame's position can be counted on; with nothing open no frame was counted yet
-  pub counts : (object : ℕ) → due ≡ Member object → (x .depth ≡ 0 → x .frames ≡ replicate maxOpen noFrame) → getD (x .frames) (x .top) noFrame .position + 1 < 2 ^ 32
+  pub counts : (object : ℕ) → due ≡ Member object → getD (x .frames) (x .top) noFrame .position + 1 < 2 ^ 32
   unfolding dueNow dueOf
-  counts object d first = go (x .depth) refl
+  counts object d = go (x .depth) refl
     where
       go : (n : ℕ) → x .depth ≡ n → getD (x .frames) (x .top) noFrame .position + 1 < 2 ^ 32
       go zero e =
           let z : x .top ≡ 0 = omega (arith, x .at) in
-          rw (first e, z) (lit< tt)
+          rw (x .first e, z) (lit< tt)
       go (suc n) e =
           let some : x .depth ≡ 0 → ⊥ = λ z. omega arith in
           let f : Frame = getD (x .frames) (x .top) noFrame in

@@ -3,7 +3,7 @@ use mathlib.Core.Bool.{false, cond}
 use mathlib.Core.List.{List}
 use mathlib.Core.Path.{_≡_}
 use Prim.Native.Nat.{ℕ, _≤_}
-use lib.Dec.{eqb}
+use lib.Dec.{eqb, ltb}
 use lib.ListN.{length}
 use Rattle.number.specs.Among.{among}
 use Rattle.number.specs.Width.{bytesIn}
@@ -28,6 +28,10 @@ dueNow file l root depth f s = cond (eqb depth 0) (Member root) (dueIn file l f 
 -- none of these numbers is at or above a bound
 abbrev pub Below : ℕ → List ℕ → Type 0
 Below above numbers = (n : ℕ) → above ≤ n → among numbers n ≡ false
+
+-- the higher of two numbers
+unfoldable pub higherOf : ℕ → ℕ → ℕ
+higherOf a b = cond (ltb a b) b a
 
 -- the reader that has these containers open
 unfoldable pub within : List ℕ → Layout → ℕ → ℕ → List Frame → Reader

@@ -28,7 +28,7 @@ ghost use Rattle.reader.specs.Next.{laidOut};
 ghost use Rattle.reader.specs.State.{maxLength};
 ghost use Rattle.transcribe.specs.Run.{run, refused as refusedEnd, endOf, finishedOf, onward};
 ghost use Rattle.transcribe.specs.Said.{failSaid, endSaid};
-ghost use Rattle.transcribe.specs.Walk.{Below, dueNow};
+ghost use Rattle.transcribe.specs.Walk.{Below, higherOf, dueNow};
 
 // The events from the root on. The open containers stay in this function's own memory and change there: a reader that goes by value is
 // copied whole at every call, and that would be half of the work.
@@ -156,9 +156,9 @@ fn is_known(numbers: &[u32], above: u64, number: u32) -> bool
     is_among(numbers, number)
 }
 
-// A number at or above both.
+// The higher of two numbers.
 fn higher(a: u64, b: u64) -> u64
-    ensures { λ r. ⌜ (a ≤ r) × (b ≤ r) ⌝ }
+    ensures { λ r. ⌜ r ≡ higherOf a b ⌝ }
 {
     if a < b { b } else { a }
 }

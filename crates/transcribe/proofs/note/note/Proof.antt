@@ -63,17 +63,21 @@ enum-known-n : tie.Need-enum-known-n
 enum-known-n c = search needs
 
 bytes-kind-requires-2 : tie.Need-bytes-kind-requires-2
-bytes-kind-requires-2 c κs = utf16-has (c .before .before .before .before .before .before .before .before .before .before .before .before .before .before .before .pre) (c .before .before .before .before .before .before .before .before .before .before .bytes2 .given .1)
+bytes-kind-requires-2 c κs =
+    let b = c .before .before .before .before .before .before .before .before .before .before in
+    utf16-has (b .before .before .before .before .before .pre) (b .bytes2 .given .1)
 
 slice-reshare-prefix-put-bytes-unchecked : tie.Need-slice-reshare-prefix-put-bytes-unchecked
 slice-reshare-prefix-put-bytes-unchecked c =
     let u = c .before .before .before .before .before .before .before .utf16-to-utf8 in
-    text-fits (c .before .before .before .before .before .before .before .before .before .before .before .before .before .before .before .before .before .pre) (c .before .before .before .before .before .before .before .before .before .before .before .before .bytes2 .given .1) (c .before .before .before .before .before .before .before .before .before .before .before .before .before .before .before .before .before .args .scratch .now) (u .result) (u .ensures .0) _ (u .ensures .1) (c .before .before .before .n .given .1)
+    let b = c .before .before .before .before .before .before .before .before .before .before .before .before in
+    text-fits (b .before .before .before .before .before .pre) (b .bytes2 .given .1) (b .before .before .before .before .before .args .scratch .now) (u .result) (u .ensures .0) _ (u .ensures .1) (c .before .before .before .n .given .1)
 
 slice-aggregate-put-bytes-unchecked : tie.Need-slice-aggregate-put-bytes-unchecked
 slice-aggregate-put-bytes-unchecked c =
     let u = c .before .before .before .before .before .before .before .before .utf16-to-utf8 in
-    sym (length-take-le _ _ (text-fits (c .before .before .before .before .before .before .before .before .before .before .before .before .before .before .before .before .before .before .pre) (c .before .before .before .before .before .before .before .before .before .before .before .before .before .bytes2 .given .1) (c .before .before .before .before .before .before .before .before .before .before .before .before .before .before .before .before .before .before .args .scratch .now) (u .result) (u .ensures .0) _ (u .ensures .1) (c .before .before .before .before .n .given .1)))
+    let b = c .before .before .before .before .before .before .before .before .before .before .before .before .before in
+    sym (length-take-le _ _ (text-fits (b .before .before .before .before .before .pre) (b .bytes2 .given .1) (b .before .before .before .before .before .args .scratch .now) (u .result) (u .ensures .0) _ (u .ensures .1) (c .before .before .before .before .n .given .1)))
 
 put-bytes-unchecked-requires-2 : tie.Need-put-bytes-unchecked-requires-2
 put-bytes-unchecked-requires-2 c κs = search needs
@@ -104,9 +108,10 @@ same-length-2 c = search needs
 
 returns-2 : tie.Need-returns-2
 returns-2 c =
-    let a = c .before .before .before .before .before .before .before .before .before .before .before .before .before .before .args in
     let p = c .before .before .before .put-bytes-unchecked in
-    file-noted (c .before .before .before .before .before .before .before .before .before .before .before .before .before .before .pre) (c .before .before .before .before .before .before .before .before .before .bytes .given .1) (a .scratch .now) (a .tape .now) (a .held) _ _ (c .before .before .before .before .before .before .bytes-kind .ensures) (c .noted .ensures ∙ ap fromTape (p .ensures .0)) (p .ensures .1)
+    let b = c .before .before .before .before .before .before .before .before .before in
+    let a = b .before .before .before .before .before .args in
+    file-noted (b .before .before .before .before .before .pre) (b .bytes .given .1) (a .scratch .now) (a .tape .now) (a .held) _ _ (c .before .before .before .before .before .before .bytes-kind .ensures) (c .noted .ensures ∙ ap fromTape (p .ensures .0)) (p .ensures .1)
 
 same-length-3 : tie.Need-same-length-3
 same-length-3 c = search needs
@@ -116,10 +121,13 @@ same-length-4 c = search needs
 
 returns-3 : tie.Need-returns-3
 returns-3 c =
-    let a = c .before .before .before .before .before .before .before .before .before .before .before .before .before .before .before .before .before .before .before .before .before .before .args in
     let p = c .before .before .before .put-bytes-unchecked2 in
     let u = c .before .before .before .before .before .before .before .before .before .before .before .before .utf16-to-utf8 in
-    utf16-noted (c .before .before .before .before .before .before .before .before .before .before .before .before .before .before .before .before .before .before .before .before .before .before .pre) (c .before .before .before .before .before .before .before .before .before .before .before .before .before .before .before .before .before .bytes2 .given .1) (a .scratch .now) (u .result) (u .ensures .0) _ (u .ensures .1) (c .before .before .before .before .before .before .before .before .n .given .1) (bytes-of (a .file .now) (λ i. omega (arith, c .before .before .before .before .before .before .before .before .before .before .before .before .before .before .before .before .before .before .before .before .before .shared-slice-known .given i))) (a .tape .now) (a .held) _ _ (c .before .before .before .before .before .before .bytes-kind2 .ensures) (c .noted2 .ensures ∙ ap fromTape (p .ensures .0)) (p .ensures .1)
+    let b = c .before .before .before .before .before .before .before .before .before .before .before .before .before .before .before .before .before in
+    let a = b .before .before .before .before .before .args in
+    utf16-noted (b .before .before .before .before .before .pre) (b .bytes2 .given .1) (a .scratch .now) (u .result) (u .ensures .0) _ (u .ensures .1) (c .before .before .before .before .before .before .before .before .n .given .1)
+    (bytes-of (a .file .now) (λ i. omega (arith, b .before .before .before .before .shared-slice-known .given i)))
+    (a .tape .now) (a .held) _ _ (c .before .before .before .before .before .before .bytes-kind2 .ensures) (c .noted2 .ensures ∙ ap fromTape (p .ensures .0)) (p .ensures .1)
 
 same-length-5 : tie.Need-same-length-5
 same-length-5 c = search needs
@@ -127,9 +135,10 @@ same-length-5 c = search needs
 returns-4 : tie.Need-returns-4
 unfolding noteSaid failSaid numberOf valuesOf
 returns-4 c =
-    let a = c .before .before .before .before .before .before .before .before .before .before .before .before .before .before .args in
     let u = c .before .before .before .before .utf16-to-utf8 in
-    long-noted (c .before .before .before .before .before .before .before .before .before .before .before .before .before .before .pre) (c .before .before .before .before .before .before .before .before .before .bytes2 .given .1) (a .scratch .now) (u .result) (u .ensures .0) _ (u .ensures .1) (c .enum-told2 .given .1) (a .tape .now) (a .held)
+    let b = c .before .before .before .before .before .before .before .before .before in
+    let a = b .before .before .before .before .before .args in
+    long-noted (b .before .before .before .before .before .pre) (b .bytes2 .given .1) (a .scratch .now) (u .result) (u .ensures .0) _ (u .ensures .1) (c .enum-told2 .given .1) (a .tape .now) (a .held)
 
 same-length-6 : tie.Need-same-length-6
 same-length-6 c = search needs
@@ -137,7 +146,8 @@ same-length-6 c = search needs
 returns-5 : tie.Need-returns-5
 returns-5 c =
     let u = c .before .before .before .before .utf16-to-utf8 in
-    absurd (never-bad (c .before .before .before .before .before .before .before .before .before .before .before .before .before .before .pre) (c .before .before .before .before .before .before .before .before .before .bytes2 .given .1) (c .before .before .before .before .before .before .before .before .before .before .before .before .before .before .args .scratch .now) (u .result) (u .ensures .0) (c .enum-told3 .given .1))
+    let b = c .before .before .before .before .before .before .before .before .before in
+    absurd (never-bad (b .before .before .before .before .before .pre) (b .bytes2 .given .1) (b .before .before .before .before .before .args .scratch .now) (u .result) (u .ensures .0) (c .enum-told3 .given .1))
 
 returns-6 : tie.Need-returns-6
 returns-6 c = absurd (never-denied (c .before .before .before .before .before .before .pre) (c .before .bytes3 .given .1))

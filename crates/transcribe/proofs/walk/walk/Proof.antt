@@ -1,4 +1,5 @@
 -- `walk` is what is left of the run from its first call: every turn takes one event of it.
+use mathlib.Core.Bool.{Bool}
 use mathlib.Core.Path.{_≡_, refl, sym, ap, _∙_}
 use Prim.Native.Nat.{_≤_}
 use native.Mathlib.Omega.{arith}
@@ -14,7 +15,7 @@ use Rattle.layout.specs.Frame.{nextIn, noFrame}
 use Rattle.layout.specs.declared.layout.Due.the-variants.{Close, Member}
 use Rattle.layout.specs.Layout.{lookOf}
 use Rattle.reader.specs.Machine.{arrive}
-use Rattle.reader.specs.State.{maxOpen}
+use Rattle.reader.specs.State.{maxOpen, memberOf}
 use Rattle.reader.specs.Next.{laidOut}
 use Rattle.transcribe.specs.Said.{noteSaid, endSaid}
 use Rattle.transcribe.specs.Run.{onward}
@@ -25,7 +26,17 @@ use Rattle.transcribe.proofs.walk.walk.Statement.{statement}
 use Rattle.transcribe.proofs.walk.walk.Tie as tie
 
 abbrev Inv-loop : tie.InvT-loop
-Inv-loop file scratch₀ tape₀ budget layout root frames₀ numbers₀ above₀ depth₀ place₀ held₀ left₀ standing₀ scratch tape frames numbers above depth place held left standing = (length scratch ≡ length scratch₀) × (length tape ≡ length tape₀) × (depth ≤ maxOpen) × (depth ≡ 0 → frames ≡ replicate maxOpen noFrame) × (leftOf file layout root left scratch tape held place depth frames ≡ onward budget file scratch₀ tape₀ 0 (arrive (laidOut file layout) root (lookOf file layout root))) × (length frames ≡ maxOpen) × Stands file layout standing depth frames × (length numbers ≡ maxOpen) × Listed depth frames numbers × Below above (take depth numbers)
+Inv-loop file scratch₀ tape₀ budget layout root frames₀ numbers₀ above₀ depth₀ place₀ held₀ left₀ standing₀ scratch tape frames numbers above depth place held left standing =
+    (length scratch ≡ length scratch₀) ×
+    (length tape ≡ length tape₀) ×
+    (depth ≤ maxOpen) ×
+    (depth ≡ 0 → frames ≡ replicate maxOpen noFrame) ×
+    (leftOf file layout root left scratch tape held place depth frames ≡ onward budget file scratch₀ tape₀ 0 (arrive (laidOut file layout) root (lookOf file layout root))) ×
+    (length frames ≡ maxOpen) ×
+    Stands file layout standing depth frames ×
+    (length numbers ≡ maxOpen) ×
+    Listed depth frames numbers ×
+    Below above (take depth numbers)
 
 abbrev μ-loop : tie.MeasureT-loop
 μ-loop file scratch₀ tape₀ budget layout root frames₀ numbers₀ above₀ depth₀ place₀ held₀ left₀ standing₀ scratch tape frames numbers above depth place held left standing = left
@@ -39,6 +50,8 @@ turn c =
       file = a .file .now;
       layout = a .layout;
       root = a .root;
+      scratch₀ = a .scratch .now;
+      tape₀ = a .tape .now;
       left = l .left;
       scratch = l .scratch;
       tape = l .tape;
@@ -47,19 +60,24 @@ turn c =
       depth = l .depth;
       frames = l .frames;
       numbers = l .numbers;
+      above = l .above;
       top = c .before .before .innermost .result;
       standing = l .standing;
       whole = onward (a .budget) (a .file .now) (a .scratch .now) (a .tape .now) 0 (arrive (laidOut (a .file .now) (a .layout)) (a .root) (lookOf (a .file .now) (a .layout) (a .root)));
       short = c .before .before .before .before .before .before .before .before .before .pre;
       few = omega arith;
       some = c .before .before .before .loop-test .taken;
+      same-scratch = l .inv .0;
+      same-tape = l .inv .1;
       fits = l .inv .2;
+      first = l .inv .3;
+      is = l .inv .4;
       long = l .inv .5;
-      many = l .inv .7;
       at = c .before .before .innermost .ensures;
       stands = l .inv .6;
+      many = l .inv .7;
       listed = l .inv .8;
-      is = l .inv .4;
+      below = l .inv .9;
     }
 
 -- what is due: the innermost container's end, or a member
@@ -78,12 +96,53 @@ found-container : (c : tie.After-shape Inv-loop μ-loop) → looked (turn (c .be
 unfolding lookSaid
 found-container c = placed-container _ _ _ _ _ (sym (c .before .before .look-up .ensures .0) ∙ ap lookSaid (c .shape .given .1))
 
+-- an end, a scalar or a start is noted, or a container is sought among the open ones: where the facts of that turn stand, seen from there
+abbrev end-turn : tie.After-note-end Inv-loop μ-loop → Turn
+end-turn n = turn (n .before .before .before .before)
+
+abbrev scalar-turn : tie.After-note Inv-loop μ-loop → Turn
+scalar-turn n = turn (n .before .before .before .before .before .before .before .before .before .before)
+
+abbrev scalar-object : tie.After-note Inv-loop μ-loop → tie.After-object Inv-loop μ-loop
+scalar-object n = n .before .before .before .before .before .before .before .before
+
+abbrev scalar-event : tie.After-note Inv-loop μ-loop → tie.After-event Inv-loop μ-loop
+scalar-event n = n .before .before .before .before
+
+abbrev met-turn : tie.After-is-known Inv-loop μ-loop → Turn
+met-turn k = turn (k .before .before .before .before .before .before .before .before .before)
+
+abbrev met-object : tie.After-is-known Inv-loop μ-loop → tie.After-object Inv-loop μ-loop
+met-object k = k .before .before .before .before .before .before .before
+
+abbrev met-shape : tie.After-is-known Inv-loop μ-loop → tie.After-shape Inv-loop μ-loop
+met-shape k = k .before .before .before
+
+abbrev start-met : tie.After-note-start Inv-loop μ-loop → tie.After-is-known Inv-loop μ-loop
+start-met n = n .before .before .before .before
+
+-- whether the container is among the open ones is what the search says
+met-sought : (k : tie.After-is-known Inv-loop μ-loop) (b : Bool) → k .is-known .result ≡ b → memberOf (take (met-turn k .depth) (met-turn k .frames)) (met-object k .object .given .0 .0) ≡ b
+met-sought k b e = sought (met-turn k) _ ∙ sym (k .is-known .ensures) ∙ e
+
 cast-place : tie.Need-cast-place Inv-loop μ-loop
 cast-place c = search needs
 
 loop-holds : tie.Need-loop-holds Inv-loop μ-loop
 unfolding among
-loop-holds c = (refl, refl, lit≤ tt, λ e. refl, ap (onward (c .before .before .before .before .args .budget) (c .before .before .before .before .args .file .now) (c .before .before .before .before .args .scratch .now) (c .before .before .before .before .args .tape .now) 0) (call-root (c .before .before .before .before .args .file .now) (c .before .before .before .before .args .layout) (c .before .before .before .before .args .root)), refl, λ e. absurd (e refl), refl, refl, λ n h. refl)
+loop-holds c =
+    let a = c .before .before .before .before .args in (
+      refl,
+      refl,
+      lit≤ tt,
+      λ e. refl,
+      ap (onward (a .budget) (a .file .now) (a .scratch .now) (a .tape .now) 0) (call-root (a .file .now) (a .layout) (a .root)),
+      refl,
+      λ e. absurd (e refl),
+      refl,
+      refl,
+      λ n h. refl,
+    )
 
 sub-left : tie.Need-sub-left Inv-loop μ-loop
 sub-left c = search needs
@@ -107,10 +166,10 @@ refused-requires : tie.Need-refused-requires Inv-loop μ-loop
 refused-requires c κs = search needs
 
 same-length : tie.Need-same-length Inv-loop μ-loop
-same-length c = c .before .before .before .before .before .before .before .loop .inv .0
+same-length c = turn (c .before .before .before) .same-scratch
 
 same-length-2 : tie.Need-same-length-2 Inv-loop μ-loop
-same-length-2 c = c .before .before .before .before .before .before .before .loop .inv .1
+same-length-2 c = turn (c .before .before .before) .same-tape
 
 returns : tie.Need-returns Inv-loop μ-loop
 unfolding numberOf valuesOf
@@ -129,14 +188,19 @@ failed-requires : tie.Need-failed-requires Inv-loop μ-loop
 failed-requires c κs = search needs
 
 same-length-3 : tie.Need-same-length-3 Inv-loop μ-loop
-same-length-3 c = c .before .before .before .before .before .before .before .before .before .before .before .before .before .before .loop .inv .0
+same-length-3 c = end-turn (c .before .before .before .before .before .before) .same-scratch
 
 same-length-4 : tie.Need-same-length-4 Inv-loop μ-loop
-same-length-4 c = c .before .before .before .before .before .before .note-end .kept .0 ∙ c .before .before .before .before .before .before .before .before .before .before .before .before .before .before .loop .inv .1
+same-length-4 c =
+    let n = c .before .before .before .before .before .before in
+    n .note-end .kept .0 ∙ end-turn n .same-tape
 
 returns-2 : tie.Need-returns-2 Inv-loop μ-loop
 unfolding noteSaid
-returns-2 c = rw (c .failed .ensures .0, c .failed .ensures .1) (close-fails (turn (c .before .before .before .before .before .before .before .before .before .before)) _ (due-close (c .before .before .before .before .before .before .before .before)) _ _ (c .before .before .before .before .before .before .note-end .ensures .0) (c .before .before .before .before .before .before .note-end .ensures .1) _ (ap noteSaid (c .before .before .failure .given .1)))
+returns-2 c =
+    let n = c .before .before .before .before .before .before in
+    rw (c .failed .ensures .0, c .failed .ensures .1)
+    (close-fails (end-turn n) _ (due-close (n .before .before)) _ _ (n .note-end .ensures .0) (n .note-end .ensures .1) _ (ap noteSaid (c .before .before .failure .given .1)))
 
 enum-known-n : tie.Need-enum-known-n Inv-loop μ-loop
 enum-known-n c = search needs
@@ -145,14 +209,19 @@ finished-requires : tie.Need-finished-requires Inv-loop μ-loop
 finished-requires c κs = search needs
 
 same-length-5 : tie.Need-same-length-5 Inv-loop μ-loop
-same-length-5 c = c .before .before .before .before .before .before .before .before .before .before .before .before .before .before .before .loop .inv .0
+same-length-5 c = end-turn (c .before .before .before .before .before .before .before) .same-scratch
 
 same-length-6 : tie.Need-same-length-6 Inv-loop μ-loop
-same-length-6 c = c .before .before .before .before .before .before .before .note-end .kept .0 ∙ c .before .before .before .before .before .before .before .before .before .before .before .before .before .before .before .loop .inv .1
+same-length-6 c =
+    let n = c .before .before .before .before .before .before .before in
+    n .note-end .kept .0 ∙ end-turn n .same-tape
 
 returns-3 : tie.Need-returns-3 Inv-loop μ-loop
 unfolding noteSaid
-returns-3 c = rw (c .finished .ensures .0, c .finished .ensures .1) (close-finishes (turn (c .before .before .before .before .before .before .before .before .before .before .before)) _ (due-close (c .before .before .before .before .before .before .before .before .before)) _ _ (c .before .before .before .before .before .before .before .note-end .ensures .0) (c .before .before .before .before .before .before .before .note-end .ensures .1) (c .before .if1 .taken) _ (ap noteSaid (c .before .before .before .n .given .1)))
+returns-3 c =
+    let n = c .before .before .before .before .before .before .before in
+    rw (c .finished .ensures .0, c .finished .ensures .1)
+    (close-finishes (end-turn n) _ (due-close (n .before .before)) _ _ (n .note-end .ensures .0) (n .note-end .ensures .1) (c .before .if1 .taken) _ (ap noteSaid (c .before .before .before .n .given .1)))
 
 mul-frames : tie.Need-mul-frames Inv-loop μ-loop
 mul-frames c = search needs
@@ -178,17 +247,18 @@ loop-less c = search needs
 loop-again : tie.Need-loop-again Inv-loop μ-loop
 unfolding noteSaid
 loop-again c =
-    let x = turn (c .before .before .before .before .before .before .before .before .before .before .before) in (
-      c .before .before .before .before .before .before .before .before .before .before .before .before .before .before .before .loop .inv .0,
-      c .before .before .before .before .before .before .before .note-end .kept .0 ∙ c .before .before .before .before .before .before .before .before .before .before .before .before .before .before .before .loop .inv .1,
+    let n = c .before .before .before .before .before .before .before in
+    let x = end-turn n in (
+      x .same-scratch,
+      n .note-end .kept .0 ∙ x .same-tape,
       omega (arith, x .at, x .fits),
       λ e. absurd (c .before .if1 .left e),
-      close-goes x _ (due-close (c .before .before .before .before .before .before .before .before .before)) _ _ (c .before .before .before .before .before .before .before .note-end .ensures .0) (c .before .before .before .before .before .before .before .note-end .ensures .1) (c .before .if1 .left) _ (ap noteSaid (c .before .before .before .n .given .1)),
+      close-goes x _ (due-close (n .before .before)) _ _ (n .note-end .ensures .0) (n .note-end .ensures .1) (c .before .if1 .left) _ (ap noteSaid (c .before .before .before .n .given .1)),
       search needs,
       λ e. c .stands-at .ensures,
-      c .before .before .before .before .before .before .before .before .before .before .before .before .before .before .before .loop .inv .7,
+      x .many,
       close-lists x,
-      close-below (x .depth) (x .top) _ (x .numbers) (omega (arith, x .at)) (c .before .before .before .before .before .before .before .before .before .before .before .before .before .before .before .loop .inv .9),
+      close-below (x .depth) (x .top) _ (x .numbers) (omega (arith, x .at)) (x .below),
     )
 
 enum-known-object : tie.Need-enum-known-object Inv-loop μ-loop
@@ -204,14 +274,16 @@ refused-requires-2 : tie.Need-refused-requires-2 Inv-loop μ-loop
 refused-requires-2 c κs = search needs
 
 same-length-7 : tie.Need-same-length-7 Inv-loop μ-loop
-same-length-7 c = c .before .before .before .before .before .before .before .before .before .before .before .before .loop .inv .0
+same-length-7 c = turn (c .before .before .before .before .before .before .before .before) .same-scratch
 
 same-length-8 : tie.Need-same-length-8 Inv-loop μ-loop
-same-length-8 c = c .before .before .before .before .before .before .before .before .before .before .before .before .loop .inv .1
+same-length-8 c = turn (c .before .before .before .before .before .before .before .before) .same-tape
 
 returns-4 : tie.Need-returns-4 Inv-loop μ-loop
 unfolding lookSaid
-returns-4 c = rw (c .refused2 .ensures .0, c .refused2 .ensures .1) (is-refused (turn (c .before .before .before .before .before .before .before .before)) _ (due-member (c .before .before .before .before .before .before)) _ _ _ (sym (c .before .before .before .before .look-up .ensures .0) ∙ ap lookSaid (c .before .before .refusal .given .1)))
+returns-4 c =
+    rw (c .refused2 .ensures .0, c .refused2 .ensures .1)
+    (is-refused (turn (c .before .before .before .before .before .before .before .before)) _ (due-member (c .before .before .before .before .before .before)) _ _ _ (sym (c .before .before .before .before .look-up .ensures .0) ∙ ap lookSaid (c .before .before .refusal .given .1)))
 
 enum-known-event : tie.Need-enum-known-event Inv-loop μ-loop
 enum-known-event c = search needs
@@ -227,14 +299,21 @@ failed-requires-2 : tie.Need-failed-requires-2 Inv-loop μ-loop
 failed-requires-2 c κs = search needs
 
 same-length-9 : tie.Need-same-length-9 Inv-loop μ-loop
-same-length-9 c = c .before .before .before .before .before .before .before .before .note .kept .1 .0 ∙ c .before .before .before .before .before .before .before .before .before .before .before .before .before .before .before .before .before .before .before .before .before .before .loop .inv .0
+same-length-9 c =
+    let n = c .before .before .before .before .before .before .before .before in
+    n .note .kept .1 .0 ∙ scalar-turn n .same-scratch
 
 same-length-10 : tie.Need-same-length-10 Inv-loop μ-loop
-same-length-10 c = c .before .before .before .before .before .before .before .before .note .kept .1 .1 .0 ∙ c .before .before .before .before .before .before .before .before .before .before .before .before .before .before .before .before .before .before .before .before .before .before .loop .inv .1
+same-length-10 c =
+    let n = c .before .before .before .before .before .before .before .before in
+    n .note .kept .1 .1 .0 ∙ scalar-turn n .same-tape
 
 returns-5 : tie.Need-returns-5 Inv-loop μ-loop
 unfolding noteSaid
-returns-5 c = rw (c .failed2 .ensures .0, c .failed2 .ensures .1) (scalar-fails (turn (c .before .before .before .before .before .before .before .before .before .before .before .before .before .before .before .before .before .before)) _ (due-member (c .before .before .before .before .before .before .before .before .before .before .before .before .before .before .before .before)) _ _ (found-scalar (c .before .before .before .before .before .before .before .before .before .before .before .before)) _ _ _ (c .before .before .before .before .before .before .before .before .note .ensures) _ (ap noteSaid (c .before .before .failure2 .given .1)))
+returns-5 c =
+    let n = c .before .before .before .before .before .before .before .before in
+    rw (c .failed2 .ensures .0, c .failed2 .ensures .1)
+    (scalar-fails (scalar-turn n) _ (due-member (scalar-object n)) _ _ (found-scalar (scalar-event n)) _ _ _ (n .note .ensures) _ (ap noteSaid (c .before .before .failure2 .given .1)))
 
 enum-known-n-2 : tie.Need-enum-known-n-2 Inv-loop μ-loop
 enum-known-n-2 c = search needs
@@ -243,14 +322,21 @@ finished-requires-2 : tie.Need-finished-requires-2 Inv-loop μ-loop
 finished-requires-2 c κs = search needs
 
 same-length-11 : tie.Need-same-length-11 Inv-loop μ-loop
-same-length-11 c = c .before .before .before .before .before .before .before .before .before .note .kept .1 .0 ∙ c .before .before .before .before .before .before .before .before .before .before .before .before .before .before .before .before .before .before .before .before .before .before .before .loop .inv .0
+same-length-11 c =
+    let n = c .before .before .before .before .before .before .before .before .before in
+    n .note .kept .1 .0 ∙ scalar-turn n .same-scratch
 
 same-length-12 : tie.Need-same-length-12 Inv-loop μ-loop
-same-length-12 c = c .before .before .before .before .before .before .before .before .before .note .kept .1 .1 .0 ∙ c .before .before .before .before .before .before .before .before .before .before .before .before .before .before .before .before .before .before .before .before .before .before .before .loop .inv .1
+same-length-12 c =
+    let n = c .before .before .before .before .before .before .before .before .before in
+    n .note .kept .1 .1 .0 ∙ scalar-turn n .same-tape
 
 returns-6 : tie.Need-returns-6 Inv-loop μ-loop
 unfolding noteSaid
-returns-6 c = rw (c .finished2 .ensures .0, c .finished2 .ensures .1) (scalar-finishes (turn (c .before .before .before .before .before .before .before .before .before .before .before .before .before .before .before .before .before .before .before)) _ (due-member (c .before .before .before .before .before .before .before .before .before .before .before .before .before .before .before .before .before)) _ _ (found-scalar (c .before .before .before .before .before .before .before .before .before .before .before .before .before)) _ _ _ (c .before .before .before .before .before .before .before .before .before .note .ensures) (c .before .if2 .taken) _ (ap noteSaid (c .before .before .before .n2 .given .1)))
+returns-6 c =
+    let n = c .before .before .before .before .before .before .before .before .before in
+    rw (c .finished2 .ensures .0, c .finished2 .ensures .1)
+    (scalar-finishes (scalar-turn n) _ (due-member (scalar-object n)) _ _ (found-scalar (scalar-event n)) _ _ _ (n .note .ensures) (c .before .if2 .taken) _ (ap noteSaid (c .before .before .before .n2 .given .1)))
 
 mul-frames-2 : tie.Need-mul-frames-2 Inv-loop μ-loop
 mul-frames-2 c = search needs
@@ -259,7 +345,9 @@ element-copy-out-frames : tie.Need-element-copy-out-frames Inv-loop μ-loop
 element-copy-out-frames c = search needs
 
 add-frames : tie.Need-add-frames Inv-loop μ-loop
-add-frames c = omega (arith, counts (turn (c .before .before .before .before .before .before .before .before .before .before .before .before .before .before .before .before .before .before)) _ (due-member (c .before .before .before .before .before .before .before .before .before .before .before .before .before .before .before .before)) (c .before .before .before .before .before .before .before .before .before .before .before .before .before .before .before .before .before .before .before .before .before .before .loop .inv .3))
+add-frames c =
+    let n = c .before .before .before .before .before .before .before .before in
+    omega (arith, counts (scalar-turn n) _ (due-member (scalar-object n)))
 
 mul-frames-3 : tie.Need-mul-frames-3 Inv-loop μ-loop
 mul-frames-3 c = search needs
@@ -272,18 +360,22 @@ loop-less-2 c = search needs
 
 loop-again-2 : tie.Need-loop-again-2 Inv-loop μ-loop
 unfolding noteSaid nextIn
-loop-again-2 c = (
-  c .before .before .before .before .before .before .before .before .before .note .kept .1 .0 ∙ c .before .before .before .before .before .before .before .before .before .before .before .before .before .before .before .before .before .before .before .before .before .before .before .loop .inv .0,
-  c .before .before .before .before .before .before .before .before .before .note .kept .1 .1 .0 ∙ c .before .before .before .before .before .before .before .before .before .before .before .before .before .before .before .before .before .before .before .before .before .before .before .loop .inv .1,
-  c .before .before .before .before .before .before .before .before .before .before .before .before .before .before .before .before .before .before .before .before .before .before .before .loop .inv .2,
-  λ e. absurd (c .before .if2 .left e),
-  scalar-goes (turn (c .before .before .before .before .before .before .before .before .before .before .before .before .before .before .before .before .before .before .before)) _ (due-member (c .before .before .before .before .before .before .before .before .before .before .before .before .before .before .before .before .before)) _ _ (found-scalar (c .before .before .before .before .before .before .before .before .before .before .before .before .before)) _ _ _ (c .before .before .before .before .before .before .before .before .before .note .ensures) (c .before .if2 .left) _ (ap noteSaid (c .before .before .before .n2 .given .1)),
-  search needs,
-  scalar-stands (turn (c .before .before .before .before .before .before .before .before .before .before .before .before .before .before .before .before .before .before .before)) _ (due-member (c .before .before .before .before .before .before .before .before .before .before .before .before .before .before .before .before .before)) _ _ (found-scalar (c .before .before .before .before .before .before .before .before .before .before .before .before .before)) _ _ _ (c .before .before .before .before .before .before .before .before .before .note .ensures),
-  c .before .before .before .before .before .before .before .before .before .before .before .before .before .before .before .before .before .before .before .before .before .before .before .loop .inv .7,
-  scalar-lists (turn (c .before .before .before .before .before .before .before .before .before .before .before .before .before .before .before .before .before .before .before)),
-  c .before .before .before .before .before .before .before .before .before .before .before .before .before .before .before .before .before .before .before .before .before .before .before .loop .inv .9,
-)
+loop-again-2 c =
+    let n = c .before .before .before .before .before .before .before .before .before in
+    let x = scalar-turn n in
+    let d = due-member (scalar-object n) in
+    let f = found-scalar (scalar-event n) in (
+      n .note .kept .1 .0 ∙ x .same-scratch,
+      n .note .kept .1 .1 .0 ∙ x .same-tape,
+      x .fits,
+      λ e. absurd (c .before .if2 .left e),
+      scalar-goes x _ d _ _ f _ _ _ (n .note .ensures) (c .before .if2 .left) _ (ap noteSaid (c .before .before .before .n2 .given .1)),
+      search needs,
+      scalar-stands x _ d _ _ f _ _ _ (n .note .ensures),
+      x .many,
+      scalar-lists x,
+      x .below,
+    )
 
 enum-known-shape : tie.Need-enum-known-shape Inv-loop μ-loop
 enum-known-shape c = search needs
@@ -292,41 +384,49 @@ cast-number : tie.Need-cast-number Inv-loop μ-loop
 cast-number c = omega (arith, short-number (turn (c .before .before .before .before .before .before .before)) _ _ _ _ (found-container (c .before)))
 
 array-share-prefix-numbers : tie.Need-array-share-prefix-numbers Inv-loop μ-loop
-array-share-prefix-numbers c = omega (arith, c .before .before .before .before .before .before .before .before .before .before .before .loop .inv .2, c .before .before .before .before .before .before .before .before .before .before .before .loop .inv .7)
+array-share-prefix-numbers c =
+    let x = turn (c .before .before .before .before .before .before .before) in
+    omega (arith, x .fits, x .many)
 
 slice-aggregate-is-known : tie.Need-slice-aggregate-is-known Inv-loop μ-loop
 slice-aggregate-is-known c =
-    let l = c .before .before .before .before .before .before .before .before .before .before .before .before .loop in
-    sym (length-take-le (l .depth) (l .numbers) (omega (arith, l .inv .2, l .inv .7)))
+    let x = turn (c .before .before .before .before .before .before .before .before) in
+    sym (length-take-le (x .depth) (x .numbers) (omega (arith, x .fits, x .many)))
 
 is-known-requires : tie.Need-is-known-requires Inv-loop μ-loop
-is-known-requires c κs = c .before .before .before .before .before .before .before .before .before .before .before .before .loop .inv .9
+is-known-requires c κs = turn (c .before .before .before .before .before .before .before .before) .below
 
 refused-requires-3 : tie.Need-refused-requires-3 Inv-loop μ-loop
 refused-requires-3 c κs = search needs
 
 same-length-13 : tie.Need-same-length-13 Inv-loop μ-loop
-same-length-13 c = c .before .before .before .before .before .before .before .before .before .before .before .before .before .before .before .loop .inv .0
+same-length-13 c = met-turn (c .before .before) .same-scratch
 
 same-length-14 : tie.Need-same-length-14 Inv-loop μ-loop
-same-length-14 c = c .before .before .before .before .before .before .before .before .before .before .before .before .before .before .before .loop .inv .1
+same-length-14 c = met-turn (c .before .before) .same-tape
 
 returns-7 : tie.Need-returns-7 Inv-loop μ-loop
 unfolding numberOf valuesOf
-returns-7 c = rw (c .refused3 .ensures .0, c .refused3 .ensures .1) (is-open-now (turn (c .before .before .before .before .before .before .before .before .before .before .before)) _ (due-member (c .before .before .before .before .before .before .before .before .before)) _ _ _ (found-container (c .before .before .before .before .before)) (sought (turn (c .before .before .before .before .before .before .before .before .before .before .before)) _ ∙ sym (c .before .before .is-known .ensures) ∙ c .before .if3 .taken))
+returns-7 c =
+    let k = c .before .before in
+    rw (c .refused3 .ensures .0, c .refused3 .ensures .1)
+    (is-open-now (met-turn k) _ (due-member (met-object k)) _ _ _ (found-container (met-shape k)) (met-sought k _ (c .before .if3 .taken)))
 
 refused-requires-4 : tie.Need-refused-requires-4 Inv-loop μ-loop
 refused-requires-4 c κs = search needs
 
 same-length-15 : tie.Need-same-length-15 Inv-loop μ-loop
-same-length-15 c = c .before .before .before .before .before .before .before .before .before .before .before .before .before .before .before .before .loop .inv .0
+same-length-15 c = met-turn (c .before .before .before) .same-scratch
 
 same-length-16 : tie.Need-same-length-16 Inv-loop μ-loop
-same-length-16 c = c .before .before .before .before .before .before .before .before .before .before .before .before .before .before .before .before .loop .inv .1
+same-length-16 c = met-turn (c .before .before .before) .same-tape
 
 returns-8 : tie.Need-returns-8 Inv-loop μ-loop
 unfolding numberOf valuesOf
-returns-8 c = rw (c .refused4 .ensures .0, c .refused4 .ensures .1) (is-deep (turn (c .before .before .before .before .before .before .before .before .before .before .before .before)) _ (due-member (c .before .before .before .before .before .before .before .before .before .before)) _ _ _ (found-container (c .before .before .before .before .before .before)) (sought (turn (c .before .before .before .before .before .before .before .before .before .before .before .before)) _ ∙ sym (c .before .before .before .is-known .ensures) ∙ c .before .before .if3 .left) (c .before .if4 .taken))
+returns-8 c =
+    let k = c .before .before .before in
+    rw (c .refused4 .ensures .0, c .refused4 .ensures .1)
+    (is-deep (met-turn k) _ (due-member (met-object k)) _ _ _ (found-container (met-shape k)) (met-sought k _ (c .before .before .if3 .left)) (c .before .if4 .taken))
 
 note-start-requires : tie.Need-note-start-requires Inv-loop μ-loop
 note-start-requires c κs = search needs
@@ -338,14 +438,20 @@ failed-requires-3 : tie.Need-failed-requires-3 Inv-loop μ-loop
 failed-requires-3 c κs = search needs
 
 same-length-17 : tie.Need-same-length-17 Inv-loop μ-loop
-same-length-17 c = c .before .before .before .before .before .before .before .before .before .before .before .before .before .before .before .before .before .before .before .before .before .before .before .loop .inv .0
+same-length-17 c = met-turn (start-met (c .before .before .before .before .before .before)) .same-scratch
 
 same-length-18 : tie.Need-same-length-18 Inv-loop μ-loop
-same-length-18 c = c .before .before .before .before .before .before .note-start .kept .0 ∙ c .before .before .before .before .before .before .before .before .before .before .before .before .before .before .before .before .before .before .before .before .before .before .before .loop .inv .1
+same-length-18 c =
+    let n = c .before .before .before .before .before .before in
+    n .note-start .kept .0 ∙ met-turn (start-met n) .same-tape
 
 returns-9 : tie.Need-returns-9 Inv-loop μ-loop
 unfolding noteSaid
-returns-9 c = rw (c .failed3 .ensures .0, c .failed3 .ensures .1) (enter-fails (turn (c .before .before .before .before .before .before .before .before .before .before .before .before .before .before .before .before .before .before .before)) _ (due-member (c .before .before .before .before .before .before .before .before .before .before .before .before .before .before .before .before .before)) _ _ _ (found-container (c .before .before .before .before .before .before .before .before .before .before .before .before .before)) (sought (turn (c .before .before .before .before .before .before .before .before .before .before .before .before .before .before .before .before .before .before .before)) _ ∙ sym (c .before .before .before .before .before .before .before .before .before .before .is-known .ensures) ∙ c .before .before .before .before .before .before .before .before .before .if3 .left) (c .before .before .before .before .before .before .before .before .if4 .left) _ refl _ _ (c .before .before .before .before .before .before .note-start .ensures .0) (c .before .before .before .before .before .before .note-start .ensures .1) _ (ap noteSaid (c .before .before .failure3 .given .1)))
+returns-9 c =
+    let n = c .before .before .before .before .before .before in
+    let k = start-met n in
+    rw (c .failed3 .ensures .0, c .failed3 .ensures .1)
+    (enter-fails (met-turn k) _ (due-member (met-object k)) _ _ _ (found-container (met-shape k)) (met-sought k _ (n .before .before .before .if3 .left)) (n .before .before .if4 .left) _ refl _ _ (n .note-start .ensures .0) (n .note-start .ensures .1) _ (ap noteSaid (c .before .before .failure3 .given .1)))
 
 enum-known-n-3 : tie.Need-enum-known-n-3 Inv-loop μ-loop
 enum-known-n-3 c = search needs
@@ -357,7 +463,9 @@ element-copy-out-frames-2 : tie.Need-element-copy-out-frames-2 Inv-loop μ-loop
 element-copy-out-frames-2 c = search needs
 
 add-frames-2 : tie.Need-add-frames-2 Inv-loop μ-loop
-add-frames-2 c = omega (arith, counts (turn (c .before .before .before .before .before .before .before .before .before .before .before .before .before .before .before .before .before .before)) _ (due-member (c .before .before .before .before .before .before .before .before .before .before .before .before .before .before .before .before)) (c .before .before .before .before .before .before .before .before .before .before .before .before .before .before .before .before .before .before .before .before .before .before .loop .inv .3))
+add-frames-2 c =
+    let k = start-met (c .before .before .before .before .before) in
+    omega (arith, counts (met-turn k) _ (due-member (met-object k)))
 
 mul-frames-5 : tie.Need-mul-frames-5 Inv-loop μ-loop
 mul-frames-5 c = search needs
@@ -372,7 +480,9 @@ array-write-numbers : tie.Need-array-write-numbers Inv-loop μ-loop
 array-write-numbers c = search needs
 
 cast-t80 : tie.Need-cast-t80 Inv-loop μ-loop
-cast-t80 c = omega (arith, short-length (turn (c .before .before .before .before .before .before .before .before .before .before .before .before .before .before .before .before .before .before .before)) _ _ _ _ (found-container (c .before .before .before .before .before .before .before .before .before .before .before .before .before)))
+cast-t80 c =
+    let k = start-met (c .before .before .before .before .before .before) in
+    omega (arith, short-length (met-turn k) _ _ _ _ (found-container (met-shape k)))
 
 mul-frames-6 : tie.Need-mul-frames-6 Inv-loop μ-loop
 mul-frames-6 c = search needs
@@ -387,7 +497,9 @@ container-at-requires : tie.Need-container-at-requires Inv-loop μ-loop
 container-at-requires c κs = search needs
 
 add-higher : tie.Need-add-higher Inv-loop μ-loop
-add-higher c = omega (arith, short-number (turn (c .before .before .before .before .before .before .before .before .before .before .before .before .before .before .before .before .before .before .before .before)) _ _ _ _ (found-container (c .before .before .before .before .before .before .before .before .before .before .before .before .before .before)))
+add-higher c =
+    let k = start-met (c .before .before .before .before .before .before .before) in
+    omega (arith, short-number (met-turn k) _ _ _ _ (found-container (met-shape k)))
 
 higher-requires : tie.Need-higher-requires Inv-loop μ-loop
 higher-requires c κs = search needs
@@ -397,18 +509,24 @@ loop-less-3 c = search needs
 
 loop-again-3 : tie.Need-loop-again-3 Inv-loop μ-loop
 unfolding noteSaid nextIn
-loop-again-3 c = (
-  c .before .before .before .before .before .before .before .before .before .before .before .before .before .before .before .before .before .before .before .before .before .before .before .before .before .loop .inv .0,
-  c .before .before .before .before .before .before .before .before .note-start .kept .0 ∙ c .before .before .before .before .before .before .before .before .before .before .before .before .before .before .before .before .before .before .before .before .before .before .before .before .before .loop .inv .1,
-  omega arith,
-  λ e. absurd (omega arith),
-  enter-goes (turn (c .before .before .before .before .before .before .before .before .before .before .before .before .before .before .before .before .before .before .before .before .before)) _ (due-member (c .before .before .before .before .before .before .before .before .before .before .before .before .before .before .before .before .before .before .before)) _ _ _ (found-container (c .before .before .before .before .before .before .before .before .before .before .before .before .before .before .before)) (sought (turn (c .before .before .before .before .before .before .before .before .before .before .before .before .before .before .before .before .before .before .before .before .before)) _ ∙ sym (c .before .before .before .before .before .before .before .before .before .before .before .before .is-known .ensures) ∙ c .before .before .before .before .before .before .before .before .before .before .before .if3 .left) (c .before .before .before .before .before .before .before .before .before .before .if4 .left) _ refl _ _ (c .before .before .before .before .before .before .before .before .note-start .ensures .0) (c .before .before .before .before .before .before .before .before .note-start .ensures .1) _ (ap noteSaid (c .before .before .before .before .n3 .given .1)),
-  still-long (turn (c .before .before .before .before .before .before .before .before .before .before .before .before .before .before .before .before .before .before .before .before .before)) _ _,
-  enter-stands (turn (c .before .before .before .before .before .before .before .before .before .before .before .before .before .before .before .before .before .before .before .before .before)) _ (due-member (c .before .before .before .before .before .before .before .before .before .before .before .before .before .before .before .before .before .before .before)) _ _ _ (found-container (c .before .before .before .before .before .before .before .before .before .before .before .before .before .before .before)) (c .before .before .before .before .before .before .before .before .before .before .if4 .left) _ (c .before .container-at .ensures),
-  rw length-set (c .before .before .before .before .before .before .before .before .before .before .before .before .before .before .before .before .before .before .before .before .before .before .before .before .before .loop .inv .7),
-  enter-lists (turn (c .before .before .before .before .before .before .before .before .before .before .before .before .before .before .before .before .before .before .before .before .before)) (c .before .before .before .before .before .before .before .before .before .before .if4 .left) _ _,
-  enter-below (c .before .before .before .before .before .before .before .before .before .before .before .before .before .before .before .before .before .before .before .before .before .before .before .before .before .loop .depth) _ _ _ (c .before .before .before .before .before .before .before .before .before .before .before .before .before .before .before .before .before .before .before .before .before .before .before .before .before .loop .numbers) (omega (arith, c .before .before .before .before .before .before .before .before .before .before .if4 .left, c .before .before .before .before .before .before .before .before .before .before .before .before .before .before .before .before .before .before .before .before .before .before .before .before .before .loop .inv .7)) (c .higher .ensures .0) (c .higher .ensures .1) (c .before .before .before .before .before .before .before .before .before .before .before .before .before .before .before .before .before .before .before .before .before .before .before .before .before .loop .inv .9),
-)
+loop-again-3 c =
+    let n = c .before .before .before .before .before .before .before .before in
+    let k = start-met n in
+    let x = met-turn k in
+    let d = due-member (met-object k) in
+    let f = found-container (met-shape k) in
+    let h = n .before .before .if4 .left in (
+      x .same-scratch,
+      n .note-start .kept .0 ∙ x .same-tape,
+      omega arith,
+      λ e. absurd (omega arith),
+      enter-goes x _ d _ _ _ f (met-sought k _ (n .before .before .before .if3 .left)) h _ refl _ _ (n .note-start .ensures .0) (n .note-start .ensures .1) _ (ap noteSaid (c .before .before .before .before .n3 .given .1)),
+      still-long x _ _,
+      enter-stands x _ d _ _ _ f h _ (c .before .container-at .ensures),
+      rw length-set (x .many),
+      enter-lists x h _ _,
+      enter-below (x .depth) _ _ _ (x .numbers) (omega (arith, h, x .many)) (c .higher .ensures) (x .below),
+    )
 
 same-length-19 : tie.Need-same-length-19 Inv-loop μ-loop
 same-length-19 c = c .before .loop .inv .0
