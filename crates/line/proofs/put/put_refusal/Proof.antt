@@ -29,11 +29,22 @@ slice-aggregate-write-bytes c = refl
 
 write-bytes-requires : tie.Need-write-bytes-requires
 unfolding numeralOf spaceOf
-write-bytes-requires c κs = omega (arith, c .before .before .before .has-room .ensures .yes (c .before .before .if1 .taken), length-refusal (c .before .before .before .before .before .before .before .args .number) (c .before .before .before .before .before .before .before .args .place), c .before .before .before .before .before .numeral-length .ensures .0, c .before .before .before .before .numeral-length2 .ensures .0)
+write-bytes-requires c κs =
+    let r = c .before .before .before in
+    let a = r .before .before .before .before .args in
+    let d = r .before .before .numeral-length .ensures .0 in
+    let e = r .before .numeral-length2 .ensures .0 in
+    omega (arith, r .has-room .ensures .yes (c .before .before .if1 .taken), length-refusal (a .number) (a .place), d, e)
 
 write-numeral-requires : tie.Need-write-numeral-requires
 unfolding numeralOf spaceOf
-write-numeral-requires c κs = omega (arith, c .before .before .before .before .before .before .before .has-room .ensures .yes (c .before .before .before .before .before .before .if1 .taken), length-refusal (c .before .before .before .before .before .before .before .before .before .before .before .args .number) (c .before .before .before .before .before .before .before .before .before .before .before .args .place), c .before .before .before .before .before .before .before .before .before .numeral-length .ensures .0, c .before .before .before .before .before .before .before .before .numeral-length2 .ensures .0, c .before .before .before .write-bytes .ensures .place, written-length (c .before .before .before .write-bytes .ensures))
+write-numeral-requires c κs =
+    let r = c .before .before .before .before .before .before .before in
+    let a = r .before .before .before .before .args in
+    let d = r .before .before .numeral-length .ensures .0 in
+    let e = r .before .numeral-length2 .ensures .0 in
+    let w = c .before .before .before .write-bytes .ensures in
+    omega (arith, r .has-room .ensures .yes (c .before .before .before .before .before .before .if1 .taken), length-refusal (a .number) (a .place), d, e, w .place, written-length w)
 
 slice-aggregate-write-row : tie.Need-slice-aggregate-write-row
 slice-aggregate-write-row c = refl
@@ -43,18 +54,36 @@ slice-aggregate-write-row-2 c = refl
 
 write-row-requires : tie.Need-write-row-requires
 unfolding numeralOf spaceOf tail
-write-row-requires c κs = omega (arith, c .before .before .before .before .before .before .before .before .before .before .before .before .before .has-room .ensures .yes (c .before .before .before .before .before .before .before .before .before .before .before .before .if1 .taken), length-refusal (c .before .before .before .before .before .before .before .before .before .before .before .before .before .before .before .before .before .args .number) (c .before .before .before .before .before .before .before .before .before .before .before .before .before .before .before .before .before .args .place), c .before .before .before .before .before .before .before .before .before .before .before .before .before .before .before .numeral-length .ensures .0, c .before .before .before .before .before .before .before .before .before .before .before .before .before .before .numeral-length2 .ensures .0, length-row word-at (plus (c .before .before .before .before .before .before .before .before .before .before .before .before .before .before .before .before .before .args .place)) [], c .before .before .before .before .before .before .before .before .before .write-bytes .ensures .place, written-length (c .before .before .before .before .before .before .before .before .before .write-bytes .ensures), c .before .before .before .before .before .write-numeral .ensures .place, written-length (c .before .before .before .before .before .write-numeral .ensures))
+write-row-requires c κs =
+    let r = c .before .before .before .before .before .before .before .before .before .before .before .before .before in
+    let a = r .before .before .before .before .args in
+    let d = r .before .before .numeral-length .ensures .0 in
+    let e = r .before .numeral-length2 .ensures .0 in
+    let w = c .before .before .before .before .before .before .before .before .before .write-bytes .ensures in
+    let n = c .before .before .before .before .before .write-numeral .ensures in
+    omega (arith, r .has-room .ensures .yes (c .before .before .before .before .before .before .before .before .before .before .before .before .if1 .taken), length-refusal (a .number) (a .place), d, e, length-row word-at (plus (a .place)) [], w .place, written-length w, n .place, written-length n)
 
 same-length : tie.Need-same-length
-same-length c = written-length (c .before .before .write-row .ensures) ∙ (written-length (c .before .before .before .before .before .before .before .before .write-numeral .ensures) ∙ written-length (c .before .before .before .before .before .before .before .before .before .before .before .before .write-bytes .ensures))
+same-length c = written-length (c .before .before .write-row .ensures) ∙ written-length (c .before .before .before .before .before .before .before .before .write-numeral .ensures) ∙ written-length (c .before .before .before .before .before .before .before .before .before .before .before .before .write-bytes .ensures)
 
 returns : tie.Need-returns
 unfolding refusalLine numeralOf spaceOf
-returns c = put-whole (written-append (c .before .before .before .before .before .before .before .before .before .before .before .before .write-bytes .ensures) (written-append (c .before .before .before .before .before .before .before .before .write-numeral .ensures) (c .before .before .write-row .ensures))) (omega (arith, c .before .before .before .before .before .before .before .before .before .before .before .before .before .before .before .before .has-room .ensures .yes (c .before .before .before .before .before .before .before .before .before .before .before .before .before .before .before .if1 .taken), length-refusal (c .before .before .before .before .before .before .before .before .before .before .before .before .before .before .before .before .before .before .before .before .args .number) (c .before .before .before .before .before .before .before .before .before .before .before .before .before .before .before .before .before .before .before .before .args .place), c .before .before .before .before .before .before .before .before .before .before .before .before .before .before .before .before .before .before .numeral-length .ensures .0, c .before .before .before .before .before .before .before .before .before .before .before .before .before .before .before .before .before .numeral-length2 .ensures .0))
+returns c =
+    let r = c .before .before .before .before .before .before .before .before .before .before .before .before .before .before .before .before in
+    let a = r .before .before .before .before .args in
+    let d = r .before .before .numeral-length .ensures .0 in
+    let e = r .before .numeral-length2 .ensures .0 in
+    put-whole (written-append (c .before .before .before .before .before .before .before .before .before .before .before .before .write-bytes .ensures) (written-append (c .before .before .before .before .before .before .before .before .write-numeral .ensures) (c .before .before .write-row .ensures)))
+    (omega (arith, r .has-room .ensures .yes (c .before .before .before .before .before .before .before .before .before .before .before .before .before .before .before .if1 .taken), length-refusal (a .number) (a .place), d, e))
 
 returns-2 : tie.Need-returns-2
 unfolding numeralOf spaceOf
-returns-2 c = put-none _ _ _ (omega (arith, c .before .has-room .ensures .no (c .if1 .left), length-refusal (c .before .before .before .before .before .args .number) (c .before .before .before .before .before .args .place), c .before .before .before .numeral-length .ensures .0, c .before .before .numeral-length2 .ensures .0))
+returns-2 c =
+    let r = c .before in
+    let a = r .before .before .before .before .args in
+    let d = r .before .before .numeral-length .ensures .0 in
+    let e = r .before .numeral-length2 .ensures .0 in
+    put-none _ _ _ (omega (arith, r .has-room .ensures .no (c .if1 .left), length-refusal (a .number) (a .place), d, e))
 
 pub put-refusal-spec : {M : Type 1} → statement M
 put-refusal-spec =

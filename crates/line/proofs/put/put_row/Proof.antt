@@ -16,16 +16,27 @@ has-room-requires : tie.Need-has-room-requires
 has-room-requires c κs = search needs
 
 write-row-requires : tie.Need-write-row-requires
-write-row-requires c κs = omega (arith, c .before .before .has-room .ensures .yes (c .before .if1 .taken), length-row (c .before .before .before .before .before .before .before .args .word .now) (numeralOf (c .before .before .before .before .before .before .before .args .number)) (c .before .before .before .before .before .before .before .args .bytes .now), length-tail (c .before .before .before .before .before .before .before .args .bytes .now), c .before .before .before .numeral-length .ensures .0)
+write-row-requires c κs =
+    let r = c .before .before in
+    let a = r .before .before .before .before .before .args in
+    omega (arith, r .has-room .ensures .yes (c .before .if1 .taken), length-row (a .word .now) (numeralOf (a .number)) (a .bytes .now), length-tail (a .bytes .now), r .before .numeral-length .ensures .0)
 
 same-length : tie.Need-same-length
 same-length c = written-length (c .before .before .write-row .ensures)
 
 returns : tie.Need-returns
-returns c = put-whole (c .before .before .write-row .ensures) (omega (arith, c .before .before .before .before .before .has-room .ensures .yes (c .before .before .before .before .if1 .taken), length-row (c .before .before .before .before .before .before .before .before .before .before .args .word .now) (numeralOf (c .before .before .before .before .before .before .before .before .before .before .args .number)) (c .before .before .before .before .before .before .before .before .before .before .args .bytes .now), length-tail (c .before .before .before .before .before .before .before .before .before .before .args .bytes .now), c .before .before .before .before .before .before .numeral-length .ensures .0))
+returns c =
+    let r = c .before .before .before .before .before in
+    let a = r .before .before .before .before .before .args in
+    put-whole (c .before .before .write-row .ensures)
+    (omega (arith, r .has-room .ensures .yes (c .before .before .before .before .if1 .taken), length-row (a .word .now) (numeralOf (a .number)) (a .bytes .now), length-tail (a .bytes .now), r .before .numeral-length .ensures .0))
 
 returns-2 : tie.Need-returns-2
-returns-2 c = put-none _ _ _ (omega (arith, c .before .has-room .ensures .no (c .if1 .left), length-row (c .before .before .before .before .before .before .args .word .now) (numeralOf (c .before .before .before .before .before .before .args .number)) (c .before .before .before .before .before .before .args .bytes .now), length-tail (c .before .before .before .before .before .before .args .bytes .now), c .before .before .numeral-length .ensures .0))
+returns-2 c =
+    let r = c .before in
+    let a = r .before .before .before .before .before .args in
+    put-none _ _ _
+    (omega (arith, r .has-room .ensures .no (c .if1 .left), length-row (a .word .now) (numeralOf (a .number)) (a .bytes .now), length-tail (a .bytes .now), r .before .numeral-length .ensures .0))
 
 pub put-row-spec : {M : Type 1} → statement M
 put-row-spec =
