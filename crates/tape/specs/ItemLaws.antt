@@ -28,11 +28,3 @@ module _ (tape : List ℕ) (at : ℕ) where
           let means : meaningIn tape i ≡ m = cc in
           let end : i .next ≡ next = cc in
           (i, f, means, end)
-
-  pub reads-bad : readAt tape at ≡ bad → itemAt tape at ≡ Bad
-  unfolding readAt readingOf
-  reads-bad e = go (itemAt tape at) refl e
-    where
-      go : (s : Step) → itemAt tape at ≡ s → readingOf tape s ≡ bad → itemAt tape at ≡ Bad
-      go Bad f g = f
-      go (ItemOf i) f g = let z : _≡_ {A = ℕ} 0 1 = cc in absurd (omega arith)

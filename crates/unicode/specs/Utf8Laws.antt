@@ -71,11 +71,6 @@ pub ascii-cons : (b : ℕ) (s : List ℕ) → isAscii (b ∷ s) ≡ true → (b 
 unfolding isAscii
 ascii-cons b s h = (ltb-true b 0x80 (and-left (ltb b 0x80) (isAscii s) h), and-right (ltb b 0x80) (isAscii s) h)
 
--- nor does a run of them
-pub ascii-append : (a s : List ℕ) → isAscii a ≡ true → isUtf8 (a ++ s) ≡ isUtf8 s
-ascii-append [] s h = refl
-ascii-append (b ∷ a) s h = let k = ascii-cons b a h in ascii-first b (a ++ s) (k .0) ∙ ascii-append a s (k .1)
-
 -- ASCII is UTF-8
 pub ascii-utf8 : (s : List ℕ) → isAscii s ≡ true → isUtf8 s ≡ true
 unfolding isUtf8 wellFormed

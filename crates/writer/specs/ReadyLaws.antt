@@ -8,7 +8,7 @@ use native.Mathlib.Nat.{add-zero}
 use native.Mathlib.Omega.{arith}
 use lib.IntN.{pos, negsuc}
 use lib.ListN.{length, getD, take, drop, length-append, length-map, take-append-drop, List·getD-append}
-use lib.Seq.{drop-cons, take-suc, take-length, getD-append-add}
+use lib.Seq.{drop-cons, take-suc, getD-append-add}
 use Rattle.event.specs.Format.{maxLength}
 use Rattle.event.specs.Meaning.{Meaning, array, dictionary, close, boolean, bytes, date, integer, real, text, uid}
 use Rattle.tape.specs.Code.{bytesFor, OnTape}
@@ -91,17 +91,6 @@ low-scalar (start arr) k h l = absurd (omega arith)
 low-scalar (start dic) k h l = absurd (omega arith)
 low-scalar end k h l = absurd (omega arith)
 
-middle-start : (p : Piece) (k : ℕ) → HasKind p k → 0x0a ≤ k → (k ≡ 0x0e → ⊥) → (d : Kind) × (p ≡ start d)
-middle-start (scalar s) k h l u = absurd (omega arith)
-middle-start (start d) k h l u = (d, refl)
-middle-start end k h l u = absurd (u h)
-
-last-end : (p : Piece) (k : ℕ) → HasKind p k → k ≡ 0x0e → p ≡ end
-last-end (scalar s) k h l = absurd (omega arith)
-last-end (start arr) k h l = absurd (omega arith)
-last-end (start dic) k h l = absurd (omega arith)
-last-end end k h l = refl
-
 -- a meaning whose piece is a scalar
 pub scalar-piece : (m : Meaning) (s : Scalar) → pieceOf m ≡ scalar s → IsScalar m × (s ≡ bytesFor m)
 unfolding pieceOf
@@ -173,12 +162,6 @@ module _ {t : List ℕ} {n : ℕ} (r : Ready t n) where
   unfolding startAt tapeOf
   start-zero = refl
 
-  pub start-end : startAt t n ≡ length t
-  unfolding startAt
-  start-end =
-      let e : take n (meaningsIn t) ≡ meaningsIn t = rw (← r .count) (take-length (meaningsIn t)) in
-      rw (e, ← ready-tape)
-
   pub event-at : (i : ℕ) → i < n → (m : Meaning) × EventAt t i m
   unfolding startAt piecesIn
   event-at i h =
@@ -244,17 +227,6 @@ module _ {t : List ℕ} {n : ℕ} (r : Ready t n) where
       let a = piece-at i h in
       let b = low-scalar (a .0) (kindAt t i) (kind-at i (a .0) (drop (suc i) (piecesIn t)) (a .1)) k in
       (b .0, rw (b .1) at (a .1))
-
-  pub kind-start : (i : ℕ) → i < n → 0x0a ≤ kindAt t i → (kindAt t i ≡ 0x0e → ⊥) → (k : Kind) × (drop i (piecesIn t) ≡ start k ∷ drop (suc i) (piecesIn t))
-  kind-start i h k l =
-      let a = piece-at i h in
-      let b = middle-start (a .0) (kindAt t i) (kind-at i (a .0) (drop (suc i) (piecesIn t)) (a .1)) k l in
-      (b .0, rw (b .1) at (a .1))
-
-  pub kind-end : (i : ℕ) → i < n → kindAt t i ≡ 0x0e → drop i (piecesIn t) ≡ end ∷ drop (suc i) (piecesIn t)
-  kind-end i h k =
-      let a = piece-at i h in
-      rw (last-end (a .0) (kindAt t i) (kind-at i (a .0) (drop (suc i) (piecesIn t)) (a .1)) k) at (a .1)
 
   -- of a start the kind tells which
   pub array-at : (i : ℕ) (q : List Piece) → drop i (piecesIn t) ≡ start arr ∷ q → (0x0a ≤ kindAt t i) × (kindAt t i < 0x0c)

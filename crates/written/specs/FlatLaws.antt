@@ -1,7 +1,7 @@
 -- Objects' bytes one after the other: each stands where it is first met, and what is met again adds nothing.
 use mathlib.Core.Path.{_≡_, refl, sym, ap, _∙_}
 use mathlib.Core.Bool.{Bool, true, false, cond, true≢false, false≢true}
-use mathlib.Core.List.{List, [], _∷_, _++_, append-assoc, append-nil}
+use mathlib.Core.List.{List, [], _∷_, _++_, append-assoc}
 use Prim.Native.Nat.{ℕ, _+_, _≤_}
 use native.Mathlib.Omega.{arith}
 use lib.ListN.{length, length-append}
@@ -49,15 +49,6 @@ module _ (f : Name → List ℕ) where
       go false e ih =
           let r = ih (simp (e, has) at h) in
           (f y ++ r .0, r .1, rw (r .2) (sym (append-assoc (f y) (r .0) (f x ++ r .1))), rw (e, length-append (f y) (r .0), r .3))
-
-  -- with one more, there is more only where it is new
-  pub flat-nub : (x : Name) (kept : List Name) → flat f (cond (has same x kept) kept (kept ++ (x ∷ []))) ≡ flat f kept ++ cond (has same x kept) [] (f x)
-  unfolding flat
-  flat-nub x kept = go (has same x kept)
-    where
-      go : (b : Bool) → flat f (cond b kept (kept ++ (x ∷ []))) ≡ flat f kept ++ cond b [] (f x)
-      go true = sym (append-nil (flat f kept))
-      go false = flat-append kept (x ∷ []) ∙ ap (λ (l : List ℕ). flat f kept ++ l) (append-nil (f x))
 
 -- what is met in front is written in front
 pub emission-front : (es : List Piece) (front back : List Name) → spoken 0 es ≡ front ++ back → (r : List Name) × (emission es ≡ nubOnto same [] front ++ r)

@@ -30,15 +30,6 @@ module _ {A : Type 0} (eq : A → A → Bool) where
   distinct [] = true
   distinct (x ∷ xs) = cond (has x xs) false (distinct xs)
 
-  nubOnto-snoc : (k xs : List A) (x : A) → nubOnto k (xs ++ (x ∷ [])) ≡ cond (has x (nubOnto k xs)) (nubOnto k xs) (nubOnto k xs ++ (x ∷ []))
-  unfolding nubOnto
-  nubOnto-snoc k [] x = refl
-  nubOnto-snoc k (y ∷ ys) x = nubOnto-snoc (cond (has y k) k (k ++ (y ∷ []))) ys x
-
-  pub nub-snoc : (xs : List A) (x : A) → nub (xs ++ (x ∷ [])) ≡ cond (has x (nub xs)) (nub xs) (nub xs ++ (x ∷ []))
-  unfolding nub
-  nub-snoc xs x = nubOnto-snoc [] xs x
-
   pub indexOf-lt : (x : A) (xs : List A) → has x xs ≡ true → indexOf x xs < length xs
   unfolding indexOf has
   indexOf-lt x [] h = let z : _≡_ {A = ℕ} 0 1 = cc in absurd (omega arith)

@@ -1,24 +1,18 @@
 -- The first event of a name stands for it: numbers of events in the place of names.
 use mathlib.Core.Path.{_≡_, refl, sym, ap, _∙_}
-use mathlib.Core.Bool.{Bool, true, false, cond, true≢false, false≢true}
+use mathlib.Core.Bool.{Bool, true, false, cond, false≢true}
 use mathlib.Core.List.{List, [], _∷_, _++_, map, nil≢cons, head-eq-of-cons-eq}
 use Prim.Native.Nat.{ℕ, zero, suc, _+_, _≤_, _<_}
 use native.Mathlib.Nat.{add-suc, suc-add, add-zero, zero-add}
 use native.Mathlib.Omega.{arith}
-use borrow.Author.Tests.{ltb-true, ltb-false, eqb-true, eqb-false}
-use lib.Dec.{ltb, eqb}
+use borrow.Author.Tests.{eqb-true, eqb-false}
+use lib.Dec.{eqb}
 use lib.ListN.{length, getD, drop}
 use Rattle.written.specs.NameLaws.{drop-lt, drop-next, same-sound, same-refl, In, in-here, in-there, in-drop}
 use Rattle.written.specs.Graph.{Scalar, Kind, arr, dic, Piece, scalar, start, end, Name, val, box, same, kids, evens, odds, laid, names, spoken}
 use Rattle.written.specs.Nub.{has, nubOnto, indexOf, getD-indexOf}
 use Rattle.written.specs.Shape.{nameOf}
 use Rattle.written.specs.Weigh.{eventNames, repOf}
-
--- the names of the events
-pub length-events : (n : ℕ) (es : List Piece) → length (eventNames n es) ≡ length es
-unfolding eventNames
-length-events n [] = refl
-length-events n (p ∷ es) = ap suc (length-events (suc n) es)
 
 events-drop : (i n : ℕ) (es : List Piece) → drop i (eventNames n es) ≡ eventNames (n + i) (drop i es)
 unfolding eventNames
@@ -94,25 +88,6 @@ module _ (es : List Piece) where
       let (p, q, d, n) = rep-at (val s) (event-in es i (scalar s) r e) in
       (q, d ∙ ap (λ (c : Piece). c ∷ q) (name-val s (repOf es (val s)) p n))
 
-  -- the event that stands for a name stands for itself
-  pub rep-again : (x : Name) → In x (eventNames 0 es) → (p : Piece) (q : List Piece) → drop (repOf es x) es ≡ p ∷ q → repOf es (nameOf (repOf es x) p) ≡ repOf es x
-  rep-again x h p q e =
-      let (c, l, d, n) = rep-at x h in
-      let o : c ≡ p = head-eq-of-cons-eq (sym d ∙ e) in
-      ap (repOf es) (rw o at n)
-
-  -- the first event that is equal, found by a search from the first on
-  pub rep-first : (s : Scalar) (j : ℕ) (r : List Piece) → drop j es ≡ scalar s ∷ r
-      → ((i : ℕ) (p : Piece) (q : List Piece) → i < j → drop i es ≡ p ∷ q → same (val s) (nameOf i p) ≡ false) → repOf es (val s) ≡ j
-  rep-first s j r e none = go (ltb (repOf es (val s)) j) refl (rep-at (val s) (event-in es j (scalar s) r e))
-    where
-      go : (b : Bool) → ltb (repOf es (val s)) j ≡ b
-          → (p : Piece) × (q : List Piece) × (drop (repOf es (val s)) es ≡ p ∷ q) × (nameOf (repOf es (val s)) p ≡ val s) → repOf es (val s) ≡ j
-      go true t (p, q, d, n) =
-          let f = none (repOf es (val s)) p q (ltb-true (repOf es (val s)) j t) d in
-          absurd (true≢false (sym (same-refl (val s)) ∙ ap (same (val s)) (sym n) ∙ f))
-      go false t (p, q, d, n) = omega (arith, ltb-false (repOf es (val s)) j t, rep-le j (scalar s) r e)
-
   -- two names of the tape are the same where their first events are
   pub rep-one : (x y : Name) → In x (eventNames 0 es) → In y (eventNames 0 es) → eqb (repOf es x) (repOf es y) ≡ same x y
   unfolding repOf
@@ -145,10 +120,6 @@ module _ (l : List Name) where
   pub among-left : (xs ys : List Name) → Among l (xs ++ ys) → Among l xs
   among-left [] ys a = tt
   among-left (x ∷ xs) ys a = (a .0, among-left xs ys (a .1))
-
-  pub among-right : (xs ys : List Name) → Among l (xs ++ ys) → Among l ys
-  among-right [] ys a = a
-  among-right (x ∷ xs) ys a = among-right xs ys (a .1)
 
   pub among-nub : (kept xs : List Name) → Among l kept → Among l xs → Among l (nubOnto same kept xs)
   unfolding nubOnto

@@ -228,11 +228,7 @@ along-step es stop i (x ∷ xs) (p, r, e, n, m, _, a) h = record {
   more = a;
 }
 
-pub along-end : (es : List Piece) (stop i : ℕ) (xs : List Name) → Along es stop i xs → stop ≤ i → (i ≡ stop) × (xs ≡ [])
-along-end es stop i [] a h = (a, refl)
-along-end es stop i (x ∷ xs) (_, _, _, _, _, lt, _) h = absurd (omega arith)
-
--- The same where the walk asks whether NEXT is above 0
+-- whether it goes on is whether NEXT is above 0
 pub along-more : (es : List Piece) (stop i : ℕ) (xs : List Name) → Along es stop i xs → nextAt es stop ≡ 0 → 0 < nextAt es i → i < stop
 along-more es stop i [] a z h = absurd (omega (arith, ap (nextAt es) a))
 along-more es stop i (x ∷ xs) (_, _, _, _, _, lt, _) z h = lt
@@ -295,15 +291,3 @@ module _ (es : List Piece) (stop : ℕ) where
   pairs-end i [] (v ∷ vs) a h = absurd a
   pairs-end i (k ∷ ks) [] a h = absurd a
   pairs-end i (k ∷ ks) (v ∷ vs) (_, _, _, _, _, _, _, lt, _) h = absurd (omega arith)
-
-  pub pairs-more : (i : ℕ) (ks vs : List Name) → InPairs es stop i ks vs → nextAt es stop ≡ 0 → 0 < nextAt es i → i < stop
-  pairs-more i [] [] a z h = absurd (omega (arith, ap (nextAt es) a))
-  pairs-more i [] (v ∷ vs) a z h = absurd a
-  pairs-more i (k ∷ ks) [] a z h = absurd a
-  pairs-more i (k ∷ ks) (v ∷ vs) (_, _, _, _, _, _, _, lt, _) z h = omega arith
-
-  pub pairs-over : (i : ℕ) (ks vs : List Name) → InPairs es stop i ks vs → nextAt es i ≡ 0 → (i ≡ stop) × (ks ≡ []) × (vs ≡ [])
-  pairs-over i [] [] a h = (a, refl, refl)
-  pairs-over i [] (v ∷ vs) a h = absurd a
-  pairs-over i (k ∷ ks) [] a h = absurd a
-  pairs-over i (k ∷ ks) (v ∷ vs) (s, p, r, e, _, _, _, _, _) h = absurd (omega (arith, next-scalar es i s (p ∷ r) e))

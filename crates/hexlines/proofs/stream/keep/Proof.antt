@@ -1,7 +1,6 @@
 -- `keep` stays within the buffer.
 use mathlib.Core.Path.{_≡_}
 use Prim.Native.Nat.{_-_}
-use native.Mathlib.Omega.{arith}
 use borrow.Author.Needs.{needs}
 use lib.ListN.{length}
 use Rattle.hexlines.proofs.stream.keep.Statement.{statement}

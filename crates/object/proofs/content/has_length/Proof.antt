@@ -1,5 +1,4 @@
 -- `has_length`: the marker has the length, or the byte behind it is one of four.
-use native.Mathlib.Omega.{arith}
 use borrow.Author.Needs.{needs}
 use borrow.Author.Tests.{eq-eqb, ne-eqb, le-leb, lt-leb}
 use Rattle.object.specs.Content.{isLengthByte, hasLength}

@@ -1,6 +1,5 @@
 -- `after` only goes on, and ends within the slice.
 use Prim.Native.Nat.{_-_, _≤_}
-use native.Mathlib.Omega.{arith}
 use borrow.Author.Needs.{needs}
 use lib.ListN.{length}
 use Rattle.replay.proofs.forged.after.Statement.{statement}

@@ -1,7 +1,6 @@
 -- `say_frames` stays within the frames.
 use mathlib.Core.Path.{_≡_}
 use Prim.Native.Nat.{_-_}
-use native.Mathlib.Omega.{arith}
 use borrow.Author.Needs.{needs}
 use lib.ListN.{length}
 use Rattle.replay.proofs.forged.say_frames.Statement.{statement}

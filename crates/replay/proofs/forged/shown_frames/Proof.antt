@@ -1,6 +1,5 @@
 -- `shown_frames` goes down from the last frame.
 use Prim.Native.Nat.{_≤_}
-use native.Mathlib.Omega.{arith}
 use borrow.Author.Needs.{needs}
 use Rattle.event.specs.Format.{maxOpen}
 use Rattle.replay.proofs.forged.shown_frames.Statement.{statement}

@@ -1,6 +1,5 @@
 -- `state_of` stays within the frames.
 use Prim.Native.Nat.{_-_, _≤_}
-use native.Mathlib.Omega.{arith}
 use borrow.Author.Needs.{needs}
 use Rattle.event.specs.Format.{maxOpen}
 use Rattle.replay.proofs.forged.state_of.Statement.{statement}
