@@ -1,6 +1,7 @@
 -- Through the promises: where `write_file` answers with a length, so many bytes of the output are a file of which all that is claimed holds; and where
 -- `transcribe` is given that file and room enough, it leaves the events on its tape, lengths filled in.
-use mathlib.Core.List.{List}
+use mathlib.Core.List.{List, map}
+use mathlib.Core.Logic.{_↔_}
 use mathlib.Core.Path.{_≡_, sym, ap, _∙_}
 use Prim.Native.Nat.{ℕ, _≤_, _<_}
 use native.Mathlib.Nat.{zero-add}
@@ -27,6 +28,7 @@ use Rattle.written_claims.specs.Accepted.{Accepted}
 use Rattle.written_claims.specs.Filled.{filled}
 use Rattle.written_claims.specs.Good.{Good, good}
 use Rattle.written_claims.specs.ReadWhole.{scratchNeeded, Holds}
+use Rattle.written_claims.specs.Same.{plainOf, same-file}
 use Rattle.written_claims.specs.Writes.{Writes, accepts}
 
 -- the front of an output is the file of a tape's events, and nothing behind it has changed
@@ -51,6 +53,17 @@ unfolding writtenSaid
 write-file-good κs a x e p k l =
     let w = accepts (now (a .0)) (length (now (a .1 .0))) (now (a .1 .1 .0)) k (p .1 .1 .1) (sym (p .0) ∙ ap writtenSaid l) in
     file-in (now (a .0)) (length (now (a .1 .0))) (now (a .1 .1 .0)) (now (e .1 .1 .0)) k w (p .1 .0 ∙ w .output)
+
+-- THE SAME RECORD, THE SAME BYTES, of what two calls leave: the two files are equal exactly when the events of the two tapes are, given lengths dropped
+pub write-file-same :
+    (κs : Lfts 3) (a : Dens κs write-file-kinds.ps) (x : resT write-file-kinds.r κs .Denot) (e : AtExit (endedOf 3 write-file-kinds.ps write-file-kinds.r) κs)
+    (λs : Lfts 3) (b : Dens λs write-file-kinds.ps) (y : resT write-file-kinds.r λs .Denot) (f : AtExit (endedOf 3 write-file-kinds.ps write-file-kinds.r) λs)
+    → write-file-reads.Post κs a x e → write-file-reads.Post λs b y f → (k l : ℕ) → x ≡ Length k → y ≡ Length l
+    → (take k (now (e .1 .1 .0)) ≡ take l (now (f .1 .1 .0))) ↔ (map plainOf (meaningsIn (now (a .0))) ≡ map plainOf (meaningsIn (now (b .0))))
+write-file-same κs a x e λs b y f p q k l u v =
+    let g = write-file-good κs a x e p k u in
+    let h = write-file-good λs b y f q l v in
+    rw (g .front, h .front) (same-file (meaningsIn (now (a .0))) (meaningsIn (now (b .0))) (g .accepted) (h .accepted))
 
 -- what `transcribe` answers and leaves is what the definition says
 pub transcribe-back : (κs : Lfts 3) (a : Dens κs transcribe-kinds.ps) (x : resT transcribe-kinds.r κs .Denot) (e : AtExit (endedOf 3 transcribe-kinds.ps transcribe-kinds.r) κs)

@@ -41,4 +41,5 @@ pub mod Table
 pub mod Verdict
 pub mod VerdictLaws
 pub mod SameAnswers
+pub mod SameOrBad
 pub mod SameExamples

@@ -45,7 +45,7 @@ after-same bad ms ns (onto d ds) e = ap later (e d ds)
 after-same bad ms ns (barred r) e = refl
 
 -- the verdict goes by events without their lengths
-judge-plain : (bad : Bool) (due : Due) (around : List Due) (ms : List Meaning) → judgeFrom bad due around (map plainOf ms) ≡ judgeFrom bad due around ms
+pub judge-plain : (bad : Bool) (due : Due) (around : List Due) (ms : List Meaning) → judgeFrom bad due around (map plainOf ms) ≡ judgeFrom bad due around ms
 unfolding judgeFrom
 judge-plain bad due around [] = refl
 judge-plain bad due around (m ∷ ms) = rw (turn-plain due m, judgeFrom) (after-same bad (map plainOf ms) ms (moveOf (turnOf due m) due around) (λ d ds. judge-plain bad d ds ms))
@@ -80,12 +80,13 @@ pub data SameAnswer (s t : List ℕ) (x y : Said) : Type 0 where
   at-event : (i : ℕ) (r : Refusal) → x ≡ refused (numberOf r) (kindsOf r) (startAt s i) → y ≡ refused (numberOf r) (kindsOf r) (startAt t i) → SameAnswer s t x y
   at-end : x ≡ refused 22 [] (length s) → y ≡ refused 22 [] (length t) → SameAnswer s t x y
 
-by-verdict : (s t : List ℕ) (v : Verdict) (file : List ℕ) (words room : ℕ)
-    → SameAnswer s t (byCheck (saidBy 0 (length s) (startAt s) v) file words room) (byCheck (saidBy 0 (length t) (startAt t) v) file words room)
+-- one verdict on both, and one file where it is that they are whole
+pub by-verdict : (s t : List ℕ) (v : Verdict) (file other : List ℕ) (words room : ℕ) → ((n : ℕ) → v ≡ passes n → file ≡ other)
+    → SameAnswer s t (byCheck (saidBy 0 (length s) (startAt s) v) file words room) (byCheck (saidBy 0 (length t) (startAt t) v) other words room)
 unfolding saidBy byCheck refusedAt numberOf kindsOf
-by-verdict s t (passes n) file words room = equal refl
-by-verdict s t unfinished file words room = at-end refl refl
-by-verdict s t (stops i r) file words room = at-event i r refl refl
+by-verdict s t (passes n) file other words room h = rw (h n refl) (equal refl)
+by-verdict s t unfinished file other words room h = at-end refl refl
+by-verdict s t (stops i r) file other words room h = at-event i r refl refl
 
 -- the tape's refusals have numbers below 24
 number-low : (r : Refusal) → numberOf r < 24
@@ -119,7 +120,7 @@ module _ (s t : List ℕ) (bs : Bytes s) (bt : Bytes t) (ls : length s ≤ maxLe
   unfolding writeOf
   same-answer words room =
       let c = same-check in
-      rw (c .1, c .2, ← same-written) (by-verdict s t (c .0) (fileFor (meaningsIn s)) words room)
+      rw (c .1, c .2) (by-verdict s t (c .0) (fileFor (meaningsIn s)) (fileFor (meaningsIn t)) words room (λ n e. same-written))
 
   -- 24, 25 and 26 whole
   pub same-room : (words room number place : ℕ) (kinds : List EventKind) → 23 < number → writeOf s words room ≡ refused number kinds place → writeOf t words room ≡ refused number kinds place

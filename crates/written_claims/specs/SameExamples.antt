@@ -19,7 +19,7 @@ use Rattle.unicode.specs.Unicode.{isAscii, isUtf8, wellFormed, rowOf, table as 
 use Rattle.grammar.specs.Check.{moveOf, finishOf, checkFrom, checkOf}
 use Rattle.grammar.specs.Said.{numberOf, kindsOf, refusedAt}
 use Rattle.grammar.specs.Turn.{isNothing, afterOf, unexpectedOf, unlessKey, endTurn, textTurn, turnOf, stoppedAt, turnBy, turnAt}
-use Rattle.grammar.specs.declared.answer.EventKind.the-variants.{DictionaryKeyOrEndCollection, Integer}
+use Rattle.grammar.specs.declared.answer.EventKind.the-variants.{ValueOrStartCollection, DictionaryKeyOrEndCollection, EndCollection, Integer}
 use Rattle.written.specs.Encoding.{sizeMarker, numberBytes, integerBytes, nibbleOf, headBytes, textBytes, scalarBytes, numbersBytes, objectBytes, trailerBytes}
 use Rattle.written.specs.File.{flat, ahead, refSize, bytesAt, body, placeOf, tableAt, offsetSize, table, fileOf, fileFor}
 use Rattle.written.specs.Graph.{pieceOf, sameBytes, same, kids, evens, laid, names, order, number, meaningIn, meant, bodyOf, objectOf, spoken, emission}
@@ -57,6 +57,17 @@ pub same-event :
     (writeOf (0x0D ∷ 0x05 ∷ 0x03 ∷ 0x01 ∷ []) 0 0 ≡ refused 21 (DictionaryKeyOrEndCollection ∷ Integer ∷ []) 2)
 unfolding writeOf byCheck wordsFor fittedOf meaningsIn meantBy eventsOf eventsFrom before checkOf checkFrom finishOf moveOf refusedAt numberOf kindsOf isNothing afterOf unexpectedOf unlessKey endTurn textTurn turnOf stoppedAt turnBy turnAt fileFor fileOf magic body table tableAt offsetSize placeOf bytesAt refSize flat ahead pieceOf order number emission spoken names laid kids evens bodyOf objectOf meant meaningIn same sameBytes nub nubOnto has indexOf objectBytes scalarBytes textBytes headBytes nibbleOf integerBytes numberBytes numbersBytes sizeMarker trailerBytes bytesOf sizeOf rounded needed isAscii bytesFor seven groups readAt readingOf itemAt ofKind plain partAt numbered textIn meaningAt meaningOf valueOf givenOf realOf floatBits nanBits isNan ofBits toBits numberAt numberFrom onto eightAt be digit isUtf8 wellFormed rowOf rows within
 same-event = (refl, refl)
+
+-- a malformed length behind an event that is refused, and behind the root: the refusal is the same. Where it comes first it is 20
+pub malformed-behind :
+    (writeOf (0x0E ∷ 0x0A ∷ []) 0 0 ≡ refused 21 (ValueOrStartCollection ∷ EndCollection ∷ []) 0) ×
+    (writeOf (0x0E ∷ 0x0B ∷ 0x80 ∷ 0x00 ∷ []) 0 0 ≡ refused 21 (ValueOrStartCollection ∷ EndCollection ∷ []) 0) ×
+    (writeOf (0x02 ∷ 0x0A ∷ []) 0 0 ≡ refused 23 [] 1) ×
+    (writeOf (0x02 ∷ 0x0B ∷ 0x80 ∷ 0x00 ∷ []) 0 0 ≡ refused 23 [] 1) ×
+    (writeOf (0x0A ∷ 0x0A ∷ []) 0 0 ≡ refused 22 [] 2) ×
+    (writeOf (0x0A ∷ 0x0B ∷ 0x80 ∷ 0x00 ∷ []) 0 0 ≡ refused 20 [] 1)
+unfolding writeOf byCheck wordsFor fittedOf meaningsIn meantBy eventsOf eventsFrom before checkOf checkFrom finishOf moveOf refusedAt numberOf kindsOf isNothing afterOf unexpectedOf unlessKey endTurn textTurn turnOf stoppedAt turnBy turnAt fileFor fileOf magic body table tableAt offsetSize placeOf bytesAt refSize flat ahead pieceOf order number emission spoken names laid kids evens bodyOf objectOf meant meaningIn same sameBytes nub nubOnto has indexOf objectBytes scalarBytes textBytes headBytes nibbleOf integerBytes numberBytes numbersBytes sizeMarker trailerBytes bytesOf sizeOf rounded needed isAscii bytesFor seven groups readAt readingOf itemAt ofKind plain partAt numbered textIn meaningAt meaningOf valueOf givenOf realOf floatBits nanBits isNan ofBits toBits numberAt numberFrom onto eightAt be digit isUtf8 wellFormed rowOf rows within
+malformed-behind = (refl, refl, refl, refl, refl, refl)
 
 -- [0.0] and [-0.0]
 abbrev plus : List ℕ
