@@ -102,3 +102,9 @@ zm-write-one κs a x y e f p q = (
   p .0 ∙ sym (q .0),
   rw (p .1 .0 ∙ sym (q .1 .0), p .1 .1 .0 ∙ sym (q .1 .1 .0), p .1 .1 .1 .0 ∙ sym (q .1 .1 .1 .0), p .1 .1 .1 .1 .0 ∙ sym (q .1 .1 .1 .1 .0)),
 )
+
+zm-write-words :
+    (κs : Lfts 6) (a : Dens κs zm-write-kinds.ps) (x y : resT zm-write-kinds.r κs .Denot) (e f : AtExit (endedOf 6 zm-write-kinds.ps zm-write-kinds.r) κs)
+    → zm-write-reads.Post κs a x e → zm-write-reads.Post κs a y f
+    → drop (usedOf (now (a .0)) (length (now (a .1 .0)))) (now (e .1 .0)) ≡ drop (usedOf (now (a .0)) (length (now (a .1 .0)))) (now (f .1 .0))
+zm-write-words κs a x y e f p q = p .1 .1 .1 .1 .1 ∙ sym (q .1 .1 .1 .1 .1)
