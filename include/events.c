@@ -1,4 +1,5 @@
-/* Prints the listing of a property list on standard input, as ./list does, of at most 1 MB. README.md says how it is built. */
+/* Prints the listing of a property list on standard input, of at most 1 MB, in the lines of ./list, which stops at 65,536 bytes or events.
+ * README.md says how it is built. */
 #include <stdio.h>
 #include "zurrimannu.h"
 

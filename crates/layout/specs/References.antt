@@ -23,7 +23,7 @@ inTurn [] values = values
 inTurn (key ∷ keys) [] = key ∷ keys
 inTurn (key ∷ keys) (value ∷ values) = key ∷ value ∷ inTurn keys values
 
--- where the reference at a position stands among a dictionary's: the keys stand before the values, and come in turn with them (R9, R17). A reference that doesn't lie within the file is Outside
+-- the references of a container, in the order in which they come: of a dictionary the keys stand before the values, and come in turn with them (R9, R17). One that doesn't lie within the file is Outside
 unfoldable pub entriesIn : List ℕ → Width → Container → List Entry
 entriesIn file w NoContainer = []
 entriesIn file w (Array e) = row file w (e .start) (e .count)

@@ -1,4 +1,4 @@
--- Document 01's worked cases that are about one object, computed. The trailer is all zeros: no rule of one object reads it.
+-- Document 01's worked cases that are about one object, computed. The trailer is all zeros, but where its first byte is the length byte of an object right before it.
 use mathlib.Core.Bool.{false}
 use mathlib.Core.List.{List, [], _∷_, _++_, map}
 use mathlib.Core.Path.{_≡_, refl}

@@ -35,7 +35,7 @@ putOf tape at s = cond (fits tape at s) (held (at + length s)) (refused 27 at)
 unfoldable pub putTo : List ℕ → ℕ → List ℕ → List ℕ
 putTo tape at s = cond (fits tape at s) (sets tape at s) tape
 
--- text that isn't UTF-8 is refused first
+-- text that isn't UTF-8, and a date that isn't finite, is refused first
 unfoldable pub appendOf : List ℕ → ℕ → Meaning → Said
 appendOf tape at m = cond (allowed m) (putOf tape at (bytesFor m)) (refused 20 at)
 

@@ -46,7 +46,8 @@ pub enum NoteAnswer {
     Fails(Failure),
 }
 
-// One event of the file behind what is held, with its bytes, which stand where the reader found them: they are not sought or checked again.
+// One event of the file behind what is held, with its bytes, which stand where the reader found them: they are not sought again, and
+// not checked; text in UTF-16 is measured as it is changed.
 pub(crate) fn note(
     file: &[u8],
     scratch: &mut [u8],
