@@ -21,7 +21,10 @@
 extern "C" {
 #endif
 
-/* The numbers of refusals, of the reader (1 to 17, 31, 34), the event tape (20, 27), the writer (1, 15, 20 to 26) and the calendar (30). */
+/*
+ * The numbers of refusals, of the reader (1 to 17, 31, 34), the event tape (20, 27), the writer (1, 15, 20 to 26) and the calendar (30).
+ * None is 0, and none is 240 or above: 0 and 240 to 255 are for answers that are no refusal.
+ */
 enum {
     ZM_TOO_LONG = 1,
     ZM_END_OF_INPUT = 2,

@@ -61,6 +61,23 @@ undo-calendar b t z e f =
     let h : i .floor ≡ z = cc in
     rw (← h) (i .seconds)
 
+-- 30 is the only refusal
+pub calendar-refusal : (b n : ℕ) → calendarOf b ≡ refused n → n ≡ 30
+unfolding calendarOf timeSince
+calendar-refusal b n e = go (sinceOf b) e
+  where
+    go : (s : Since) → timeSince s ≡ refused n → n ≡ 30
+    go (Lies k) f = absurd (let z : _≡_ {A = ℕ} 0 1 = cc in omega arith)
+    go Outside f = cc
+
+pub seconds-refusal : (t : Time) (n : ℕ) → secondsOf t ≡ refused n → n ≡ 30
+unfolding secondsOf
+seconds-refusal t n e = go (isTime t) e
+  where
+    go : (b : Bool) → cond b (gives (secondsSinceEpoch t)) (refused 30) ≡ refused n → n ≡ 30
+    go true f = absurd (let z : _≡_ {A = ℕ} 0 1 = cc in omega arith)
+    go false f = cc
+
 -- the code's answers are fixed by what they say
 pub datedSaid-one : (x y : Dated) → datedSaid x ≡ datedSaid y → x ≡ y
 unfolding datedSaid

@@ -4,20 +4,15 @@ use mathlib.Core.Path.{_≡_, refl, sym, ap, _∙_}
 use Prim.Native.Nat.{ℕ}
 use denote.Ref.{now}
 use Rattle.object.specs.FoundLaws.{foundOf-one}
-use Rattle.layout.specs.SaidLaws.{look-one, trailer-one}
+use Rattle.layout.specs.SaidLaws.{look-one, trailer-one, dueSaid-one}
 use Rattle.reader.specs.SaidLaws.{stepSaid-one, textSaid-one}
 use Rattle.tape.specs.AppendLaws.{said-one}
+use Rattle.tape.specs.SaidLaws.{stepSaid-one as tape-step-one}
 use Rattle.transcribe.specs.Run.{Run}
 use Rattle.transcribe.specs.SaidLaws.{endSaid-one}
 use Rattle.transcribe.specs.declared.Transcript.{Transcript}
 use Rattle.transcribe.proofs.transcribe.Kinds as transcribe-kinds
 use Rattle.transcribe.proofs.transcribe.Reads as transcribe-reads
-use Rattle.line.proofs.put.put_event.Kinds as put-event-kinds
-use Rattle.line.proofs.put.put_event.Reads as put-event-reads
-use Rattle.line.proofs.put.put_refusal.Kinds as put-refusal-kinds
-use Rattle.line.proofs.put.put_refusal.Reads as put-refusal-reads
-use Rattle.line.proofs.put.put_fixed.Kinds as put-fixed-kinds
-use Rattle.line.proofs.put.put_fixed.Reads as put-fixed-reads
 use Rattle.exports.proofs.text.zm_is_utf8.Kinds as zm-is-utf8-kinds
 use Rattle.exports.proofs.text.zm_is_utf8.Reads as zm-is-utf8-reads
 use Rattle.exports.proofs.text.zm_is_utf16.Kinds as zm-is-utf16-kinds
@@ -84,8 +79,8 @@ use Rattle.unicode.proofs.to_utf16.utf16_units.Kinds as utf16-units-kinds
 use Rattle.unicode.proofs.to_utf16.utf16_units.Reads as utf16-units-reads
 use Rattle.unicode.proofs.to_utf16.utf8_to_utf16.Kinds as utf8-to-utf16-kinds
 use Rattle.unicode.proofs.to_utf16.utf8_to_utf16.Reads as utf8-to-utf16-reads
-use Rattle.unicode.proofs.to_utf16.utf8_to_utf16_unchecked.Kinds as utf8-to-utf16-unchecked-kinds
-use Rattle.unicode.proofs.to_utf16.utf8_to_utf16_unchecked.Reads as utf8-to-utf16-unchecked-reads
+use Rattle.unicode.proofs.unchecked.utf8_to_utf16.Kinds as unchecked-utf8-to-utf16-kinds
+use Rattle.unicode.proofs.unchecked.utf8_to_utf16.Reads as unchecked-utf8-to-utf16-reads
 use Rattle.object.proofs.kind.kind_of.Kinds as kind-of-kinds
 use Rattle.object.proofs.kind.kind_of.Reads as kind-of-reads
 use Rattle.object.proofs.container.container_at.Kinds as container-at-kinds
@@ -94,6 +89,10 @@ use Rattle.object.proofs.read.object_at.Kinds as object-at-kinds
 use Rattle.object.proofs.read.object_at.Reads as object-at-reads
 use Rattle.layout.proofs.refusal.number_of.Kinds as number-of-kinds
 use Rattle.layout.proofs.refusal.number_of.Reads as number-of-reads
+use Rattle.object.proofs.refusal.number_of.Kinds as object-number-kinds
+use Rattle.object.proofs.refusal.number_of.Reads as object-number-reads
+use Rattle.reader.proofs.refusal.number_of.Kinds as reader-number-kinds
+use Rattle.reader.proofs.refusal.number_of.Reads as reader-number-reads
 use Rattle.layout.proofs.layout.number_at.Kinds as number-at-kinds
 use Rattle.layout.proofs.layout.number_at.Reads as number-at-reads
 use Rattle.layout.proofs.layout.due_at.Kinds as due-at-kinds
@@ -129,20 +128,20 @@ use Rattle.tape.proofs.step.step.Kinds as step-kinds
 use Rattle.tape.proofs.step.step.Reads as step-reads
 use Rattle.tape.proofs.append.append.Kinds as append-kinds
 use Rattle.tape.proofs.append.append.Reads as append-reads
-use Rattle.tape.proofs.append.append_unchecked.Kinds as append-unchecked-kinds
-use Rattle.tape.proofs.append.append_unchecked.Reads as append-unchecked-reads
-use Rattle.tape.proofs.append.put_bytes_unchecked.Kinds as put-bytes-unchecked-kinds
-use Rattle.tape.proofs.append.put_bytes_unchecked.Reads as put-bytes-unchecked-reads
-use Rattle.tape.proofs.append.put_kind.Kinds as put-kind-kinds
-use Rattle.tape.proofs.append.put_kind.Reads as put-kind-reads
-use Rattle.tape.proofs.append.put_number.Kinds as put-number-kinds
-use Rattle.tape.proofs.append.put_number.Reads as put-number-reads
+use Rattle.tape.proofs.unchecked.append.Kinds as unchecked-append-kinds
+use Rattle.tape.proofs.unchecked.append.Reads as unchecked-append-reads
+use Rattle.tape.proofs.unchecked.put_bytes.Kinds as put-bytes-kinds
+use Rattle.tape.proofs.unchecked.put_bytes.Reads as put-bytes-reads
+use Rattle.tape.proofs.unchecked.put_kind.Kinds as put-kind-kinds
+use Rattle.tape.proofs.unchecked.put_kind.Reads as put-kind-reads
+use Rattle.tape.proofs.unchecked.put_number.Kinds as put-number-kinds
+use Rattle.tape.proofs.unchecked.put_number.Reads as put-number-reads
 use Rattle.tape.proofs.append.put_boolean.Kinds as put-boolean-kinds
 use Rattle.tape.proofs.append.put_boolean.Reads as put-boolean-reads
 use Rattle.tape.proofs.append.put_integer.Kinds as put-integer-kinds
 use Rattle.tape.proofs.append.put_integer.Reads as put-integer-reads
-use Rattle.tape.proofs.append.put_eight.Kinds as put-eight-kinds
-use Rattle.tape.proofs.append.put_eight.Reads as put-eight-reads
+use Rattle.tape.proofs.unchecked.put_eight.Kinds as put-eight-kinds
+use Rattle.tape.proofs.unchecked.put_eight.Reads as put-eight-reads
 
 is-date-one : One 0 is-date-kinds.ps is-date-kinds.r is-date-reads.Post (Unit {0}) (λ κs e. tt)
 is-date-one κs a x y e f p q = (p ∙ sym q, refl)
@@ -219,8 +218,8 @@ utf16-units-one κs a x y e f p q = (p ∙ sym q, refl)
 utf8-to-utf16-one : One 2 utf8-to-utf16-kinds.ps utf8-to-utf16-kinds.r utf8-to-utf16-reads.Post (List ℕ) (λ κs e. now (e .1 .0))
 utf8-to-utf16-one κs a x y e f p q = (p .0 ∙ sym (q .0), p .1 ∙ sym (q .1))
 
-utf8-to-utf16-unchecked-one : One 2 utf8-to-utf16-unchecked-kinds.ps utf8-to-utf16-unchecked-kinds.r utf8-to-utf16-unchecked-reads.Post (List ℕ) (λ κs e. now (e .1 .0))
-utf8-to-utf16-unchecked-one κs a x y e f p q = (p .0 ∙ sym (q .0), p .1 ∙ sym (q .1))
+unchecked-utf8-to-utf16-one : One 2 unchecked-utf8-to-utf16-kinds.ps unchecked-utf8-to-utf16-kinds.r unchecked-utf8-to-utf16-reads.Post (List ℕ) (λ κs e. now (e .1 .0))
+unchecked-utf8-to-utf16-one κs a x y e f p q = (p .0 ∙ sym (q .0), p .1 ∙ sym (q .1))
 
 kind-of-one : One 0 kind-of-kinds.ps kind-of-kinds.r kind-of-reads.Post (Unit {0}) (λ κs e. tt)
 kind-of-one κs a x y e f p q = (p ∙ sym q, refl)
@@ -234,17 +233,23 @@ object-at-one κs a x y e f p q = (foundOf-one x y (p ∙ sym q), refl)
 number-of-one : One 0 number-of-kinds.ps number-of-kinds.r number-of-reads.Post (Unit {0}) (λ κs e. tt)
 number-of-one κs a x y e f p q = (p ∙ sym q, refl)
 
+object-number-one : One 0 object-number-kinds.ps object-number-kinds.r object-number-reads.Post (Unit {0}) (λ κs e. tt)
+object-number-one κs a x y e f p q = (p ∙ sym q, refl)
+
+reader-number-one : One 0 reader-number-kinds.ps reader-number-kinds.r reader-number-reads.Post (Unit {0}) (λ κs e. tt)
+reader-number-one κs a x y e f p q = (p ∙ sym q, refl)
+
 number-at-one : One 1 number-at-kinds.ps number-at-kinds.r number-at-reads.Post (Unit {0}) (λ κs e. tt)
 number-at-one κs a x y e f p q = (p ∙ sym q, refl)
 
 due-at-one : One 1 due-at-kinds.ps due-at-kinds.r due-at-reads.Post (Unit {0}) (λ κs e. tt)
-due-at-one κs a x y e f p q = (p ∙ sym q, refl)
+due-at-one κs a x y e f p q = (dueSaid-one x y (p ∙ sym q), refl)
 
 stands-at-one : One 1 stands-at-kinds.ps stands-at-kinds.r stands-at-reads.Post (Unit {0}) (λ κs e. tt)
 stands-at-one κs a x y e f p q = (p ∙ sym q, refl)
 
 due-in-one : One 1 due-in-kinds.ps due-in-kinds.r due-in-reads.Post (Unit {0}) (λ κs e. tt)
-due-in-one κs a x y e f p q = (p ∙ sym q, refl)
+due-in-one κs a x y e f p q = (dueSaid-one x y (p ∙ sym q), refl)
 
 look-up-one : One 1 look-up-kinds.ps look-up-kinds.r look-up-reads.Post (Unit {0}) (λ κs e. tt)
 look-up-one κs a x y e f p q = (look-one x y (p .0 ∙ sym (q .0)) (p .1 ∙ sym (q .1)), refl)
@@ -278,19 +283,19 @@ text-part-one : OneView 1 text-part-kinds.ps text-part-kinds.r text-part-reads.P
 text-part-one κs a x y e f p q = p ∙ sym q
 
 step-one : One 1 step-kinds.ps step-kinds.r step-reads.Post (Unit {0}) (λ κs e. tt)
-step-one κs a x y e f p q = (p ∙ sym q, refl)
+step-one κs a x y e f p q = (tape-step-one (a .1 .0) x y (p ∙ sym q), refl)
 
 quick-step-one : One 1 quick-step-kinds.ps quick-step-kinds.r quick-step-reads.Post (Unit {0}) (λ κs e. tt)
-quick-step-one κs a x y e f p q = (p ∙ sym q, refl)
+quick-step-one κs a x y e f p q = (tape-step-one (a .1 .0) x y (p ∙ sym q), refl)
 
 append-one : One 2 append-kinds.ps append-kinds.r append-reads.Post (List ℕ) (λ κs e. now (e .0))
 append-one κs a x y e f p q = (said-one x y (p .0 ∙ sym (q .0)), p .1 .0 ∙ sym (q .1 .0))
 
-append-unchecked-one : One 2 append-unchecked-kinds.ps append-unchecked-kinds.r append-unchecked-reads.Post (List ℕ) (λ κs e. now (e .0))
-append-unchecked-one κs a x y e f p q = (said-one x y (p .0 ∙ sym (q .0)), p .1 ∙ sym (q .1))
+unchecked-append-one : One 2 unchecked-append-kinds.ps unchecked-append-kinds.r unchecked-append-reads.Post (List ℕ) (λ κs e. now (e .0))
+unchecked-append-one κs a x y e f p q = (said-one x y (p .0 ∙ sym (q .0)), p .1 ∙ sym (q .1))
 
-put-bytes-unchecked-one : One 2 put-bytes-unchecked-kinds.ps put-bytes-unchecked-kinds.r put-bytes-unchecked-reads.Post (List ℕ) (λ κs e. now (e .0))
-put-bytes-unchecked-one κs a x y e f p q = (said-one x y (p .0 ∙ sym (q .0)), p .1 ∙ sym (q .1))
+put-bytes-one : One 2 put-bytes-kinds.ps put-bytes-kinds.r put-bytes-reads.Post (List ℕ) (λ κs e. now (e .0))
+put-bytes-one κs a x y e f p q = (said-one x y (p .0 ∙ sym (q .0)), p .1 ∙ sym (q .1))
 
 put-kind-one : One 1 put-kind-kinds.ps put-kind-kinds.r put-kind-reads.Post (List ℕ) (λ κs e. now (e .0))
 put-kind-one κs a x y e f p q = (said-one x y (p .0 ∙ sym (q .0)), p .1 ∙ sym (q .1))
@@ -309,20 +314,11 @@ put-eight-one κs a x y e f p q = (said-one x y (p .0 ∙ sym (q .0)), p .1 ∙ 
 
 transcribe-one : One 3 transcribe-kinds.ps transcribe-kinds.r transcribe-reads.Post (record { tape : List ℕ; scratch : List ℕ }) (λ κs e. record { tape = now (e .1 .1 .0); scratch = now (e .1 .0) })
 transcribe-one κs a x y e f p q =
-    let z = p ∙ sym q in
+    let z = p .0 ∙ sym (q .0) in
     (same-transcript x y (endSaid-one (x .ending) (y .ending) (ap (λ (r : Run). r .ending) z)) (ap (λ (r : Run). r .held) z), rw (ap (λ (r : Run). r .tape) z, ap (λ (r : Run). r .scratch) z))
   where
     same-transcript : (x y : Transcript) → x .ending ≡ y .ending → x .held ≡ y .held → x ≡ y
     same-transcript x y d h = rw (d, h)
-
-put-event-one : One 2 put-event-kinds.ps put-event-kinds.r put-event-reads.Post (List ℕ) (λ κs e. now (e .0))
-put-event-one κs a x y e f p q = (p .0 ∙ sym (q .0), p .1 ∙ sym (q .1))
-
-put-refusal-one : One 1 put-refusal-kinds.ps put-refusal-kinds.r put-refusal-reads.Post (List ℕ) (λ κs e. now (e .0))
-put-refusal-one κs a x y e f p q = (p .0 ∙ sym (q .0), p .1 ∙ sym (q .1))
-
-put-fixed-one : One 1 put-fixed-kinds.ps put-fixed-kinds.r put-fixed-reads.Post (List ℕ) (λ κs e. now (e .0))
-put-fixed-one κs a x y e f p q = (p .0 ∙ sym (q .0), p .1 ∙ sym (q .1))
 
 zm-is-utf8-one : One 1 zm-is-utf8-kinds.ps zm-is-utf8-kinds.r zm-is-utf8-reads.Post (Unit {0}) (λ κs e. tt)
 zm-is-utf8-one κs a x y e f p q = (p ∙ sym q, refl)
@@ -340,16 +336,16 @@ zm-utf8-to-utf16-one : One 2 zm-utf8-to-utf16-kinds.ps zm-utf8-to-utf16-kinds.r 
 zm-utf8-to-utf16-one κs a x y e f p q = (p .0 ∙ sym (q .0), p .1 .0 ∙ sym (q .1 .0))
 
 zm-tape-append-one : One 2 zm-tape-append-kinds.ps zm-tape-append-kinds.r zm-tape-append-reads.Post (List ℕ) (λ κs e. now (e .0))
-zm-tape-append-one κs a x y e f p q = (p .0 ∙ sym (q .0), p .1 ∙ sym (q .1))
+zm-tape-append-one κs a x y e f p q = (p .0 ∙ sym (q .0), p .1 .0 ∙ sym (q .1 .0))
 
 zm-tape-step-one : One 4 zm-tape-step-kinds.ps zm-tape-step-kinds.r zm-tape-step-reads.Post (record { value : ℕ; start : ℕ; length : ℕ }) (λ κs e. record { value = now (e .1 .1 .0); start = now (e .1 .1 .1 .0); length = now (e .1 .1 .1 .1 .0) })
 zm-tape-step-one κs a x y e f p q = (
   p .0 ∙ sym (q .0),
-  rw (p .1 .0 ∙ sym (q .1 .0), p .1 .1 .0 ∙ sym (q .1 .1 .0), p .1 .1 .1 ∙ sym (q .1 .1 .1)),
+  rw (p .1 .0 ∙ sym (q .1 .0), p .1 .1 .0 ∙ sym (q .1 .1 .0), p .1 .1 .1 .0 ∙ sym (q .1 .1 .1 .0)),
 )
 
 zm-transcribe-one : One 6 zm-transcribe-kinds.ps zm-transcribe-kinds.r zm-transcribe-reads.Post (record { held : ℕ; place : ℕ; marker : ℕ; tape : List ℕ; scratch : List ℕ }) (λ κs e. record { held = now (e .1 .1 .1 .1 .0); place = now (e .1 .1 .1 .1 .1 .0); marker = now (e .1 .1 .1 .1 .1 .1 .0); tape = now (e .1 .1 .0); scratch = now (e .1 .0) })
 zm-transcribe-one κs a x y e f p q = (
   p .0 ∙ sym (q .0),
-  rw (p .1 .0 ∙ sym (q .1 .0), p .1 .1 .0 ∙ sym (q .1 .1 .0), p .1 .1 .1 .0 ∙ sym (q .1 .1 .1 .0), p .1 .1 .1 .1 .0 ∙ sym (q .1 .1 .1 .1 .0), p .1 .1 .1 .1 .1 ∙ sym (q .1 .1 .1 .1 .1)),
+  rw (p .1 .0 ∙ sym (q .1 .0), p .1 .1 .0 ∙ sym (q .1 .1 .0), p .1 .1 .1 .0 ∙ sym (q .1 .1 .1 .0), p .1 .1 .1 .1 .0 ∙ sym (q .1 .1 .1 .1 .0), p .1 .1 .1 .1 .1 .0 ∙ sym (q .1 .1 .1 .1 .1 .0)),
 )

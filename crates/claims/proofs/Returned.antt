@@ -1,74 +1,97 @@
--- From the definition to the code: what `next` returns, call after call on one file, is what `runs` and `answerOf` say.
+-- From the definition to the code: what `next` returns, call after call on one file, is what `runs` and `answerOf` say. So what is claimed of these is
+-- claimed of the code: of the readers and the answers that it returns, by their numbers (docs/FORMAT.md, N).
+use mathlib.Core.Bool.{true}
 use mathlib.Core.List.{List, [], _∷_}
+use mathlib.Core.Logic.{_⊎_, inl, inr, _↔_}
 use mathlib.Core.Option.{some}
-use mathlib.Core.Path.{_≡_, ap}
-use Prim.Native.Nat.{ℕ, zero, suc, _+_, _<_}
-use native.Mathlib.Nat.{add-zero, zero-add}
+use mathlib.Core.Path.{_≡_, refl, sym, ap, _∙_}
+use Prim.Native.Nat.{ℕ, zero, suc, _+_, _-_, _^_, _≤_, _<_}
 use native.Mathlib.Omega.{arith}
-use borrow.Fn.Kinds.{Dens, endedOf}
-use contract.Lifetimes.{Lfts}
-use denote.Ref.{now}
-use denote.Triple.Clauses.{AtExit}
-use lib.ListN.{getElem?}
-use Rattle.reader.proofs.state.Reader.fresh_reader.Kinds as fresh-reader-kinds
-use Rattle.reader.proofs.state.Reader.fresh_reader.Reads as fresh-reader-reads
-use Rattle.reader.proofs.state.Reader.next.Kinds as next-kinds
-use Rattle.reader.proofs.state.Reader.next.Reads as next-reads
-use Rattle.reader.specs.Machine.{Step}
+use lib.ListN.{length, getElem?}
+use Rattle.event.specs.Date.{isDate}
+use Rattle.event.specs.declared.Event.the-variants.{Date}
+use Rattle.layout.specs.Trailer.{eightAt}
+use Rattle.reader.proofs.Calls.{Fresh, Calls, readersOf, fresh-is, reader-at, return-at}
+use Rattle.reader.specs.Calls.{after, runs, answerOf}
+use Rattle.reader.specs.CallsLaws.{runs-more}
+use Rattle.reader.specs.Machine.{Step, eventAt, ended, refused}
 use Rattle.reader.specs.Next.{nextOf}
 use Rattle.reader.specs.Said.{said, stepSaid}
-use Rattle.reader.specs.State.{freshReader}
+use Rattle.reader.specs.State.{maxOpen}
 use Rattle.reader.specs.declared.answer.Stepped.{Stepped}
 use Rattle.reader.specs.declared.state.Reader.{Reader}
-use Rattle.claims.specs.Calls.{runs, answerOf}
+use Rattle.claims.specs.Answers.{never-wrong-file, never-deep}
+use Rattle.claims.specs.Dates.{answer-date}
 use Rattle.claims.specs.Depth.{Nested, nested}
+use Rattle.claims.specs.Ends.{Final, ends-by}
+use Rattle.claims.specs.Last.{refusal-last}
+use Rattle.claims.specs.Recursion.{Recursive, recursion-exactly}
 
--- `fresh_reader` may return this: its generated contract holds
-pub record Fresh (r : Reader) : Type 1 where
-  pub lifetimes : Lfts 0
-  pub arguments : Dens lifetimes fresh-reader-kinds.ps
-  pub exit : AtExit (endedOf 0 fresh-reader-kinds.ps fresh-reader-kinds.r) lifetimes
-  pub meets : fresh-reader-reads.Post lifetimes arguments r exit
+there : (ss : List Stepped) (n : ℕ) → n < length ss → (s : Stepped) × (getElem? ss n ≡ some s)
+there [] n h = absurd (omega arith)
+there (s ∷ ss) zero h = (s, refl)
+there (s ∷ ss) (suc n) h = there ss n (omega arith)
 
--- `next` may return s, called with this reader and lent a slice of these bytes
-pub record Returned (file : List ℕ) (r : Reader) (s : Stepped) : Type 1 where
-  pub lifetimes : Lfts 1
-  pub arguments : Dens lifetimes next-kinds.ps
-  pub reader : arguments .0 ≡ r
-  pub bytes : now (arguments .1 .0) ≡ file
-  pub exit : AtExit (endedOf 1 next-kinds.ps next-kinds.r) lifetimes
-  pub meets : next-reads.Post lifetimes arguments s exit
+-- calls of a fresh reader, all on slices of the same bytes
+module _ (file : List ℕ) (first : Reader) (made : Fresh first) (ss : List Stepped) (calls : Calls file first ss) where
+  -- the call that n calls went before is made with the state of the definition,
+  pub returns-reader : (n : ℕ) (r : Reader) → getElem? (readersOf first ss) n ≡ some r → r ≡ runs file n
+  unfolding runs
+  returns-reader n r at = reader-at file first ss calls n r at ∙ ap (after n file) (fresh-is first made)
 
--- calls one after the other, each with the reader that the one before returned
-abbrev pub Calls : List ℕ → Reader → List Stepped → Type 1
-Calls file r [] = Unit {1}
-Calls file r (s ∷ ss) = Returned file r s × Calls file (s .reader) ss
-
-returned : (file : List ℕ) (r : Reader) (s : Stepped) → Returned file r s → stepSaid s ≡ nextOf file r
-returned file r s t = rw (← t .reader, ← t .bytes) (t .meets)
-
-module _ (file : List ℕ) where
-  returns-on : (m : ℕ) (ss : List Stepped) → Calls file (runs file m) ss → (n : ℕ) (s : Stepped) → getElem? ss n ≡ some s
-      → (s .reader ≡ runs file (suc (m + n))) × (said (s .answer) ≡ answerOf file (m + n))
+  -- and returns the next state and the answer of the definition
+  pub returns : (n : ℕ) (s : Stepped) → getElem? ss n ≡ some s → (s .reader ≡ runs file (suc n)) × (said (s .answer) ≡ answerOf file n)
   unfolding runs answerOf stepSaid
-  returns-on m [] c n s e = let z : _≡_ {A = ℕ} 0 1 = cc in absurd (omega arith)
-  returns-on m (x ∷ ss) c zero s e =
-      let q : x ≡ s = cc in
-      let t = returned file (runs file m) x (c .0) in
-      rw (← q, add-zero) (ap (λ (y : Step). y .state) t, ap (λ (y : Step). y .answer) t)
-  returns-on m (x ∷ ss) c (suc n) s e =
-      let r : x .reader ≡ runs file (suc m) = ap (λ (y : Step). y .state) (returned file (runs file m) x (c .0)) in
-      let k : m + suc n ≡ suc m + n = omega arith in
-      rw k (returns-on (suc m) ss (rw r at (c .1)) n s e)
+  returns n s at =
+      let f : nextOf file (after n file first) ≡ nextOf file (runs file n) = ap (λ (r : Reader). nextOf file (after n file r)) (fresh-is first made) in
+      let e : stepSaid s ≡ nextOf file (runs file n) = return-at file first ss calls n s at ∙ f in
+      (ap (λ (x : Step). x .state) e ∙ sym (runs-more file n), ap (λ (x : Step). x .answer) e)
 
-  module _ (first : Reader) (made : Fresh first) (ss : List Stepped) (calls : Calls file first ss) (n : ℕ) (s : Stepped) (at : getElem? ss n ≡ some s) where
-    -- the call that n calls went before returns the state and the answer of the definition
-    pub returns : (s .reader ≡ runs file (suc n)) × (said (s .answer) ≡ answerOf file n)
-    unfolding runs
-    returns =
-        let f : first ≡ freshReader = made .meets in
-        rw zero-add at (returns-on 0 ss (rw f at calls) n s at)
+  -- it comes to an end: among so many calls one hands nothing out
+  pub returns-ends : (length file + 2) ^ (maxOpen + 1) < length ss
+      → (n : ℕ) × (n ≤ (length file + 2) ^ (maxOpen + 1)) × (s : Stepped) × (getElem? ss n ≡ some s) × Final (said (s .answer))
+  returns-ends long =
+      let e = ends-by file in
+      let (s, at) = there ss (e .calls) (omega (arith, e .soon)) in
+      (e .calls, e .soon, s, at, rw (returns (e .calls) s at .1) (e .ends))
 
-    -- so what is said of `runs` is said of what the code returns: the containers that it keeps open
+  module _ (n : ℕ) (s : Stepped) (at : getElem? ss n ≡ some s) where
+    answers : said (s .answer) ≡ answerOf file n
+    answers = returns n s at .1
+
+    -- the containers that are open afterwards
     pub returns-nested : 0 < s .reader .depth → Nested file (s .reader)
-    returns-nested h = rw (returns .0) (nested file (suc n) (rw (returns .0) at h))
+    returns-nested h =
+        let e = returns n s at .0 in
+        rw e (nested file (suc n) (rw e at h))
+
+    -- 14 exactly where the reference that is due in the reader of the call names an open container
+    pub returns-recursion : (r : Reader) → getElem? (readersOf first ss) n ≡ some r → (place : ℕ) → (said (s .answer) ≡ refused 14 [] place) ↔ Recursive file r place
+    returns-recursion r given place = rw (answers, returns-reader n r given) (recursion-exactly file n place)
+
+    -- never 15 on a file that has at most as many objects as containers may be open
+    pub returns-deep : eightAt file 8 ≤ maxOpen → (values : List ℕ) (place : ℕ) → said (s .answer) ≡ refused 15 values place → ⊥
+    returns-deep small values place e = never-deep file small n values place (sym answers ∙ e)
+
+    -- never 17
+    pub returns-wrong-file : (values : List ℕ) (place : ℕ) → said (s .answer) ≡ refused 17 values place → ⊥
+    returns-wrong-file values place e = never-wrong-file file n values place (sym answers ∙ e)
+
+    -- a date that is handed out is one
+    pub returns-date : (b offset : ℕ) → said (s .answer) ≡ eventAt (Date b) offset → isDate b ≡ true
+    returns-date b offset e = answer-date file n b offset (sym answers ∙ e)
+
+    -- after a refusal every call answers Ended, or all calls, those before too, answer that refusal
+    pub returns-refusal : (number : ℕ) (values : List ℕ) (place : ℕ) → said (s .answer) ≡ refused number values place
+        → ((m : ℕ) (t : Stepped) → n < m → getElem? ss m ≡ some t → said (t .answer) ≡ ended) ⊎ ((m : ℕ) (t : Stepped) → getElem? ss m ≡ some t → said (t .answer) ≡ refused number values place)
+    returns-refusal number values place e = go (refusal-last file n number values place (sym answers ∙ e))
+      where
+        go : ((m : ℕ) → answerOf file (n + 1 + m) ≡ ended) ⊎ ((m : ℕ) → answerOf file m ≡ refused number values place)
+            → ((m : ℕ) (t : Stepped) → n < m → getElem? ss m ≡ some t → said (t .answer) ≡ ended) ⊎ ((m : ℕ) (t : Stepped) → getElem? ss m ≡ some t → said (t .answer) ≡ refused number values place)
+        go (inl h) = inl (λ m t later there. returns m t there .1 ∙ after-it m later)
+          where
+            after-it : (m : ℕ) → n < m → answerOf file m ≡ ended
+            after-it m later =
+                let k : n + 1 + (m - (n + 1)) ≡ m = omega arith in
+                rw k at (h (m - (n + 1)))
+        go (inr h) = inr (λ m t there. returns m t there .1 ∙ h m)

@@ -17,6 +17,8 @@ use Rattle.event.specs.Format.{magic}
 use Rattle.object.specs.Content.{trailerAt}
 use Rattle.object.specs.Refusal.{objectRefusals}
 use Rattle.layout.specs.Refusals.{lookRefusals, Faults}
+use Rattle.reader.specs.Calls.{runs, answerOf}
+use Rattle.reader.specs.CallsLaws.{runs-more}
 use Rattle.reader.specs.Refusals.{endRefusals}
 use Rattle.layout.specs.LookLaws.{Looked-right, look-right, Laid, never-missing}
 use Rattle.number.specs.Either.{either}
@@ -30,7 +32,6 @@ use Rattle.reader.specs.Machine.{Said, event, ended, refused, Step, step, enter
 use Rattle.reader.specs.Next.{laidOut, begin, withRefs, goOn, nextOf}
 use Rattle.reader.specs.State.{maxOpen, maxLength, endedReader, openOf, innermost, memberOf}
 use Rattle.reader.specs.declared.state.Reader.{Reader}
-use Rattle.claims.specs.Calls.{runs, answerOf}
 use Rattle.claims.specs.Ended.{Done, done-ended, done-answers}
 
 -- which refusals leave the state unchanged: 1 to 4, 16 and 17; 5 if the byte is 0. All others end
@@ -162,12 +163,12 @@ module _ (file : List ℕ) (r : Reader) where
 
 -- over calls of a fresh reader on one file: after the answer ended every answer is ended
 pub ended-again : (file : List ℕ) (n m : ℕ) → answerOf file n ≡ ended → answerOf file (n + 1 + m) ≡ ended
-unfolding answerOf runs
-ended-again file n m a = rw add-one (done-answers file (suc n) (after-ended file (runs file n) a) m)
+unfolding answerOf
+ended-again file n m a = rw add-one (done-answers file (suc n) (rw runs-more (after-ended file (runs file n) a)) m)
 
 -- and so it is after such a refusal
 pub ended-after-refusal : (file : List ℕ) (n m number : ℕ) (values : List ℕ) (place : ℕ) → answerOf file n ≡ refused number values place → among endRefusals number ≡ true
     → answerOf file (n + 1 + m) ≡ ended
-unfolding answerOf runs
+unfolding answerOf
 ended-after-refusal file n m number values place a h =
-    rw add-one (done-answers file (suc n) (rw (refusal-ends file (runs file n) number values place a h) done-ended) m)
+    rw add-one (done-answers file (suc n) (rw (runs-more, refusal-ends file (runs file n) number values place a h) done-ended) m)

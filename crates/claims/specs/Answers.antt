@@ -14,6 +14,7 @@ use Rattle.layout.specs.Looked.{missing}
 use Rattle.layout.specs.Bytes.{Asked, inFile, inUtf16, noBytes, denied, eventAsked}
 use Rattle.layout.specs.Trailer.{eightAt}
 use Rattle.layout.specs.declared.layout.Due.the-variants.{Wrong}
+use Rattle.reader.specs.Calls.{runs, answerOf}
 use Rattle.reader.specs.Machine.{event, refused}
 use Rattle.reader.specs.Next.{nextOf}
 use Rattle.reader.specs.Refusals.{stepRefusals, not-step-16, not-step-17}
@@ -23,7 +24,6 @@ use Rattle.reader.specs.declared.answer.Record.{Record}
 use Rattle.reader.specs.declared.state.Reader.{Reader}
 use Rattle.transcribe.specs.HandedLaws.{Given as Stands, next-handed, next-short}
 use Rattle.claims.specs.Call.{inner}
-use Rattle.claims.specs.Calls.{runs, answerOf}
 use Rattle.claims.specs.Due.{Pending, end, reference}
 use Rattle.claims.specs.Fair.{Refusing, fair}
 use Rattle.claims.specs.Look.{Given}

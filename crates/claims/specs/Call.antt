@@ -13,7 +13,7 @@ use Rattle.event.specs.declared.Event.{Event}
 use Rattle.event.specs.declared.Event.the-variants.{EndCollection}
 use Rattle.layout.specs.FoundLaws.{refsOf}
 use Rattle.layout.specs.LookLaws.{Looked-right, look-right, Laid, never-missing}
-use Rattle.layout.specs.Refusals.{fileRefusals, file-refusal, trailer-refusal}
+use Rattle.layout.specs.Refusals.{fileRefusals, file-refusal, keeps-refusal, ends-refusal, long-refusal}
 use Rattle.layout.specs.TrailerLaws.{Tells, tells}
 use Rattle.layout.specs.Layout.{dueOf, lookOf, sourceOf}
 use Rattle.layout.specs.Looked.{Looked, barred, missing, faulty, scalar, container, Shape, startOf}
@@ -105,10 +105,10 @@ module _ (file : List ℕ) where
   first = go (ltb maxLength (length file)) refl
     where
       trail : length file ≤ maxLength → (x : Trailer) → trailerOf file ≡ x → Tells file x → nextOf file freshReader ≡ begin file freshReader x → First file
-      trail t (keeps number values place) e k h = keeping number values place (trailer-refusal number (omega arith) (omega arith)) h
-      trail t (ends number values place) e k h = refusing number values place (trailer-refusal number (omega arith) (omega arith)) h
+      trail t (keeps number values place) e k h = keeping number values place (keeps-refusal number k) h
+      trail t (ends number values place) e k h = refusing number values place (ends-refusal number k) h
       trail t (lays l root) e k h = first-arrive t l root e (k .laid) (lookOf file l root) refl (look-right file l root) h
 
       go : (b : Bool) → ltb maxLength (length file) ≡ b → First file
-      go true e = keeping 1 [] 0 (trailer-refusal 1 (omega arith) (omega arith)) (next-begin file freshReader refl ∙ rw e)
+      go true e = keeping 1 [] 0 long-refusal (next-begin file freshReader refl ∙ rw e)
       go false e = trail (ltb-false _ _ e) (trailerOf file) refl (tells file) (next-begin file freshReader refl ∙ rw e)

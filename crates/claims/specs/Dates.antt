@@ -8,11 +8,11 @@ use native.Mathlib.Omega.{arith}
 use Rattle.event.specs.Date.{isDate}
 use Rattle.event.specs.declared.Event.the-variants.{Date}
 use Rattle.layout.specs.Bytes.{Asked, inFile, inUtf16, noBytes, denied, eventAsked, hasBytes}
+use Rattle.reader.specs.Calls.{runs, answerOf}
 use Rattle.reader.specs.Machine.{eventAt}
 use Rattle.reader.specs.Next.{nextOf}
 use Rattle.reader.specs.declared.state.Reader.{Reader}
 use Rattle.transcribe.specs.HandedLaws.{Given, next-handed}
-use Rattle.claims.specs.Calls.{runs, answerOf}
 
 given-date : (file : List ℕ) (b : ℕ) (a : Asked) → Given file (Date b) a → isDate b ≡ true
 unfolding hasBytes

@@ -8,8 +8,8 @@ use lib.ListN.{getElem?}
 use Rattle.layout.specs.References.{referencesOf}
 use Rattle.layout.specs.Trailer.{lays, eightAt, trailerOf}
 use Rattle.layout.specs.declared.layout.Layout.{Layout}
+use Rattle.reader.specs.Calls.{runs}
 use Rattle.reader.specs.declared.state.Reader.{Reader}
-use Rattle.claims.specs.Calls.{runs}
 use Rattle.claims.specs.Element.{due-names}
 use Rattle.claims.specs.Open.{frameAt, before, Open, Reached, fresh, over, within}
 use Rattle.claims.specs.Pigeon.{pigeonhole, pigeonhole-free}

@@ -4,12 +4,13 @@ use mathlib.Core.List.{List, [], _∷_}
 use mathlib.Core.Path.{_≡_, refl, ap, _∙_}
 use Prim.Native.Nat.{ℕ, zero, suc, _+_}
 use native.Mathlib.Nat.{add-zero, add-suc}
+use Rattle.reader.specs.Calls.{runs, answerOf}
+use Rattle.reader.specs.CallsLaws.{runs-more}
 use Rattle.reader.specs.Machine.{ended, Step, step}
 use Rattle.reader.specs.Next.{nextOf}
 use Rattle.reader.specs.NextLaws.{next-ended}
 use Rattle.reader.specs.State.{endedReader}
 use Rattle.reader.specs.declared.state.Reader.{Reader}
-use Rattle.claims.specs.Calls.{runs, answerOf}
 
 -- a state that isn't fresh and has nothing open
 pub record Done (r : Reader) : Type 0 where
@@ -40,10 +41,9 @@ done-ended = record { old = refl; none = refl }
 -- over calls of a fresh reader on one file
 module _ (file : List ℕ) (n : ℕ) where
   pub done-runs : Done (runs file n) → (m : ℕ) → runs file (n + m) ≡ runs file n
-  unfolding runs
   done-runs d zero = rw add-zero
   done-runs d (suc m) =
-      ap (λ (k : ℕ). runs file k) (add-suc n m) ∙ ap (λ (r : Reader). nextOf file r .state) (done-runs d m) ∙ ap (λ (s : Step). s .state) (done-next (runs file n) d file)
+      ap (λ (k : ℕ). runs file k) (add-suc n m) ∙ runs-more file (n + m) ∙ ap (λ (r : Reader). nextOf file r .state) (done-runs d m) ∙ ap (λ (s : Step). s .state) (done-next (runs file n) d file)
 
   pub done-answers : Done (runs file n) → (m : ℕ) → answerOf file (n + m) ≡ ended
   unfolding answerOf

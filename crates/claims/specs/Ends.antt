@@ -17,6 +17,8 @@ use Rattle.layout.specs.Frame.{noFrame, nextIn}
 use Rattle.layout.specs.declared.layout.Due.the-variants.{Member}
 use Rattle.layout.specs.declared.layout.Layout.{Layout}
 use Rattle.layout.specs.declared.frame.Frame.{Frame}
+use Rattle.reader.specs.Calls.{runs, answerOf}
+use Rattle.reader.specs.CallsLaws.{runs-more}
 use Rattle.reader.specs.Machine.{Said, event, eventAt, ended, refused, Step, step}
 use Rattle.reader.specs.Next.{laidOut, nextOf}
 use Rattle.reader.specs.NextLaws.{next-ended}
@@ -24,7 +26,6 @@ use Rattle.reader.specs.State.{maxOpen, freshReader, endedReader, innermost, ad
 use Rattle.reader.specs.declared.state.Reader.{Reader}
 use Rattle.claims.specs.Call as call
 use Rattle.claims.specs.Call.{Call, First, first}
-use Rattle.claims.specs.Calls.{runs, answerOf}
 use Rattle.claims.specs.Open.{frameAt, Opened, Stack, Open}
 use Rattle.claims.specs.Reached.{due-top, passed-is, entered-is, closed-is, closed-last, open-passed, open-entered, open-closed, open-first}
 use Rattle.claims.specs.Stack.{same-or-not, next-position, on-top, on-other, stack-on, off-other}
@@ -154,10 +155,10 @@ ended-now file n e = record { calls = n; soon = omega arith; ends = subst Final 
 
 fuel-on : (file : List ℕ) (k n : ℕ) → left file (runs file n) ≤ suc k → Goes file (runs file n)
     → (Open file (runs file (suc n)) → left file (runs file (suc n)) ≤ k → EndsBy file (suc n + k)) → EndsBy file (n + suc k)
-unfolding runs answerOf
+unfolding answerOf
 fuel-on file k n h (final f) more = record { calls = n; soon = omega arith; ends = f }
-fuel-on file k n h (last e) more = later (suc n) (n + suc k) (omega arith) (ended-now file (suc n) e)
-fuel-on file k n h (less o l) more = later (suc n + k) (n + suc k) (omega arith) (more o (omega arith))
+fuel-on file k n h (last e) more = later (suc n) (n + suc k) (omega arith) (ended-now file (suc n) (runs-more file n ∙ e))
+fuel-on file k n h (less o l) more = later (suc n + k) (n + suc k) (omega arith) (more (rw runs-more o) (rw runs-more (omega arith)))
 
 -- so a reader with an open container ends within as many calls as it weighs
 fuel : (file : List ℕ) (k n : ℕ) → Open file (runs file n) → left file (runs file n) ≤ k → EndsBy file (n + k)

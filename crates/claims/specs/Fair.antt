@@ -7,22 +7,23 @@ use mathlib.Core.Path.{_≡_, refl}
 use Prim.Native.Nat.{ℕ, suc, _≤_, _<_}
 use native.Mathlib.Omega.{arith}
 use lib.ListN.{length}
-use Rattle.number.specs.Among.{among}
+use Rattle.number.specs.Among.{among, among-not}
 use Rattle.layout.specs.Layout.{dueOf}
 use Rattle.layout.specs.Looked.{Shape, array, dictionary, startOf}
 use Rattle.layout.specs.Trailer.{lays, eightAt, trailerOf}
 use Rattle.layout.specs.declared.layout.Due.the-variants.{Member}
 use Rattle.layout.specs.declared.layout.Layout.{Layout}
+use Rattle.reader.specs.Calls.{runs, answerOf}
+use Rattle.reader.specs.CallsLaws.{runs-more}
 use Rattle.reader.specs.Machine.{Said, event, ended, refused}
 use Rattle.reader.specs.Next.{nextOf}
 use Rattle.reader.specs.NextLaws.{next-ended}
-use Rattle.layout.specs.Refusals.{fileRefusals, file-not}
-use Rattle.reader.specs.Refusals.{stepRefusals, step-refusal}
+use Rattle.layout.specs.Refusals.{fileRefusals}
+use Rattle.reader.specs.Refusals.{stepRefusals, step-refusal, not-file-14, not-file-15}
 use Rattle.reader.specs.State.{maxOpen, maxLength, freshReader, endedReader, openOf, innermost}
 use Rattle.reader.specs.declared.state.Reader.{Reader}
 use Rattle.claims.specs.Call as call
 use Rattle.claims.specs.Call.{Call, First, first}
-use Rattle.claims.specs.Calls.{runs, answerOf}
 use Rattle.claims.specs.Depth.{open-fewer, count-is}
 use Rattle.claims.specs.Look.{Asks}
 use Rattle.claims.specs.Members.{At, member-at}
@@ -61,8 +62,8 @@ other : {file : List ℕ} {r s : Reader} (number : ℕ) → among fileRefusals n
 other number h e =
     record {
       known = step-refusal number h;
-      recursive = λ q. absurd (file-not number 14 h (omega arith) (omega arith) q);
-      deep = λ q. absurd (file-not number 15 h (omega arith) (omega arith) q);
+      recursive = λ q. absurd (among-not fileRefusals number 14 h not-file-14 q);
+      deep = λ q. absurd (among-not fileRefusals number 15 h not-file-15 q);
       settled = e;
     }
 
@@ -115,5 +116,5 @@ module _ (file : List ℕ) where
   fair-reached r (within o) = fair-open r o (call.call file r o)
 
   pub fair : (n : ℕ) → Fair file (runs file n) (runs file (suc n)) (answerOf file n)
-  unfolding answerOf runs
-  fair n = fair-reached (runs file n) (reached file n)
+  unfolding answerOf
+  fair n = rw runs-more (fair-reached (runs file n) (reached file n))

@@ -1,7 +1,6 @@
 pub mod After
 pub mod Answers
 pub mod Call
-pub mod Calls
 pub mod Dates
 pub mod Depth
 pub mod Due

@@ -14,6 +14,8 @@ use Rattle.layout.specs.Trailer.{lays, trailerOf}
 use Rattle.layout.specs.declared.layout.Due.the-variants.{Member}
 use Rattle.layout.specs.declared.layout.Layout.{Layout}
 use Rattle.layout.specs.declared.frame.Frame.{Frame}
+use Rattle.reader.specs.Calls.{runs}
+use Rattle.reader.specs.CallsLaws.{runs-none, runs-more}
 use Rattle.reader.specs.Machine.{Step}
 use Rattle.reader.specs.Next.{laidOut, nextOf}
 use Rattle.reader.specs.NextLaws.{next-ended}
@@ -21,7 +23,6 @@ use Rattle.reader.specs.State.{maxOpen, maxLength, freshReader, endedReader, mo
 use Rattle.reader.specs.declared.state.Reader.{Reader}
 use Rattle.claims.specs.Call as call
 use Rattle.claims.specs.Call.{Call, First, first}
-use Rattle.claims.specs.Calls.{runs}
 use Rattle.claims.specs.Members.{member-in}
 use Rattle.claims.specs.Open.{frameAt, Stack, Open, Reached, fresh, over, within}
 use Rattle.claims.specs.Stack.{same-or-not, before-next, next-position, on-top, on-object, stack-on, stack-off, opened-new, stack-onto, stack-root}
@@ -150,6 +151,5 @@ reached-step file r (within o) = open-step file r o (call.call file r o)
 
 -- the invariant
 pub reached : (file : List ℕ) (n : ℕ) → Reached file (runs file n)
-unfolding runs
-reached file zero = fresh refl
-reached file (suc n) = reached-step file (runs file n) (reached file n)
+reached file zero = fresh (runs-none file)
+reached file (suc n) = rw runs-more (reached-step file (runs file n) (reached file n))

@@ -12,12 +12,12 @@ use Rattle.layout.specs.Trailer.{lays, trailerOf}
 use Rattle.layout.specs.declared.layout.Due.the-variants.{Member}
 use Rattle.layout.specs.declared.layout.Entry.the-variants.{Of}
 use Rattle.layout.specs.declared.layout.Layout.{Layout}
+use Rattle.reader.specs.Calls.{runs, answerOf}
 use Rattle.reader.specs.Machine.{Step, refused, refuse, enter, arrive, follow}
 use Rattle.reader.specs.Next.{nextOf}
 use Rattle.reader.specs.State.{openOf, innermost}
 use Rattle.reader.specs.declared.state.Reader.{Reader}
 use Rattle.claims.specs.Call.{inner, next-follow}
-use Rattle.claims.specs.Calls.{runs, answerOf}
 use Rattle.claims.specs.Depth.{while-open}
 use Rattle.claims.specs.Element.{elementDue, due-names, due-element}
 use Rattle.claims.specs.Fair.{Recurs, Refusing, fair}

@@ -10,9 +10,10 @@ use borrow.Author.Tests.{lt-ltb, eqb-true, eqb-false, ltb-true, ltb-false}
 use lib.Dec.{ltb, leb, eqb}
 use lib.ListN.{length, getElem?}
 use Rattle.number.specs.Width.{widthOf}
+use Rattle.number.specs.Among.{among-not}
 use Rattle.number.specs.declared.width.Size.{Size}
 use Rattle.number.specs.declared.width.Size.the-variants.{Allowed, NotAllowed}
-use Rattle.layout.specs.Refusals.{file-refusal, file-not}
+use Rattle.layout.specs.Refusals.{fileRefusals, file-refusal, keeps-refusal, ends-refusal, not-file-17}
 use Rattle.layout.specs.Layout.{entryAt, given, dueOf, standsFrom, standsAt, lookFrom, lookOf, sourceOf}
 use Rattle.layout.specs.LookLaws.{Looked-right, look-right, entry-there}
 use Rattle.layout.specs.Looked.{Looked, barred, missing, faulty, scalar, container, Shape}
@@ -59,9 +60,9 @@ module _ (file : List ℕ) (l : Layout) (r : Reader) (n : ℕ) where
 
   arrive-only : (x : Looked) → Looked-right file l n x → Says17 (arrive r n x .answer) → (n < l .count) × (entryAt file l n ≡ Outside)
   unfolding arrive
-  arrive-only (barred number values) k h = absurd (file-not number 17 (file-refusal number k) (omega arith) (omega arith) h)
+  arrive-only (barred number values) k h = absurd (among-not fileRefusals number 17 (file-refusal number k) not-file-17 h)
   arrive-only missing k h = k
-  arrive-only (faulty number values offset) k h = absurd (file-not number 17 (file-refusal number k) (omega arith) (omega arith) h)
+  arrive-only (faulty number values offset) k h = absurd (among-not fileRefusals number 17 (file-refusal number k) not-file-17 h)
   arrive-only (scalar e offset) k h = absurd h
   arrive-only (container s c offset) k h = absurd (enter-only s c offset h)
 
@@ -160,8 +161,8 @@ module _ (file : List ℕ) (r : Reader) where
   -- a fresh one never answers 17
   begin-never : (x : Trailer) → Tells file x → Says17 (begin file r x .answer) → ⊥
   unfolding begin
-  begin-never (keeps number values place) k h = omega (arith, k .1)
-  begin-never (ends number values place) k h = omega (arith, k .1)
+  begin-never (keeps number values place) k h = among-not fileRefusals number 17 (keeps-refusal number k) not-file-17 h
+  begin-never (ends number values place) k h = among-not fileRefusals number 17 (ends-refusal number k) not-file-17 h
   begin-never (lays l root) k h =
       let t = arrive-only file l (laidOut file l) root (lookOf file l root) (look-right file l root) h in
       let e : Outside ≡ Of _ = sym (t .1) ∙ entry-there file l (k .laid) root (t .0) in

@@ -18,7 +18,8 @@ use Rattle.written.specs.Encoding.{headBytes}
 use Rattle.encode.specs.Put.{inUtf16}
 use Rattle.encode.specs.Size.{headSize}
 use Rattle.encode.specs.PutLaws.{put-room, put-at}
-use Rattle.encode.specs.SizeLaws.{length-head}
+use Rattle.encode.specs.SizeLaws.{length-head, head-some}
+use Rattle.encode.specs.declared.put.Put.the-variants.{Bytes, NoRoom as Short, NoScalar}
 use Rattle.encode.proofs.Putting.{Puts, refused, written, renamed, sets-front}
 
 -- what an answer tells, and the memory that it leaves
@@ -50,7 +51,7 @@ module _ (units : ℕ) (s : List ℕ) where
   utf16-length = length-append (headBytes 0x60 units) (toUtf16 s) ∙ rw (length-head 0x60 units)
 
   -- no room for the head
-  pub utf16-short : (l : List ℕ) → length l < headSize units → Puts l (inUtf16 units s) 0 l
+  pub utf16-short : (l : List ℕ) → length l < headSize units → Puts l (inUtf16 units s) Short l
   utf16-short l h = renamed l utf16-text (refused l _ (omega (arith, utf16-length)))
 
 -- the text was changed into the part behind the head: the answer r, and the part m after it
@@ -75,10 +76,10 @@ module _ {l : List ℕ} {units : ℕ} {s : List ℕ} {head : ℕ} {r : Changed} 
   same e = ap (putMid head (length l - head) l) (g .memory ∙ e) ∙ put-same head (length l - head) l
 
 module _ {l : List ℕ} {units : ℕ} {s : List ℕ} {head : ℕ} {m : List ℕ} where
-  pub utf16-no-text : Changing l units s head NotText m → Puts l (inUtf16 units s) 0 (putMid head (length l - head) l m)
+  pub utf16-no-text : Changing l units s head NotText m → Puts l (inUtf16 units s) NoScalar (putMid head (length l - head) l m)
   utf16-no-text g = absurd (tells g)
 
-  pub utf16-no-room : Changing l units s head NoRoom m → Puts l (inUtf16 units s) 0 (putMid head (length l - head) l m)
+  pub utf16-no-room : Changing l units s head NoRoom m → Puts l (inUtf16 units s) Short (putMid head (length l - head) l m)
   utf16-no-room g =
       let t = tells g in
       rw (same g (t .1)) (renamed l (utf16-text units s) (refused l _ (omega (arith, utf16-length units s, part-length g, t .0, g .is))))
@@ -89,7 +90,7 @@ module _ {l : List ℕ} {units : ℕ} {s : List ℕ} {head : ℕ} {m : List ℕ}
         let t = tells g in
         omega (arith, part-length g, t .0, t .1, g .within)
 
-    pub utf16-written : {x : List ℕ} → x ≡ sets (putMid head (length l - head) l m) 0 (headBytes 0x60 units) → Puts l (inUtf16 units s) (head + n) x
+    pub utf16-written : {x : List ℕ} → x ≡ sets (putMid head (length l - head) l m) 0 (headBytes 0x60 units) → Puts l (inUtf16 units s) (Bytes (head + n)) x
     utf16-written f =
         let t = tells g in
         let u = toUtf16 s in
@@ -98,4 +99,4 @@ module _ {l : List ℕ} {units : ℕ} {s : List ℕ} {head : ℕ} {m : List ℕ}
         let q : putMid head (length l - head) l m ≡ sets l head u = ap (putMid head (length l - head) l) (g .memory ∙ t .2 ∙ sym (put-room (part g) u (t .0) .0)) ∙ put-at l head (length l) u room (omega arith) in
         let k : length hb ≡ head = length-head 0x60 units ∙ sym (g .is) in
         let p : sets (sets l head u) 0 hb ≡ sets l 0 (hb ++ u) = rw k at (sets-front l hb u (omega arith)) in
-        renamed l (utf16-text units s) (written l _ (omega (arith, utf16-length units s, g .is)) (omega (arith, utf16-length units s, t .1, g .is)) (f ∙ rw q p))
+        renamed l (utf16-text units s) (written l _ (omega (arith, utf16-length units s, head-some units)) (omega (arith, utf16-length units s, g .is)) (omega (arith, utf16-length units s, t .1, g .is)) (f ∙ rw q p))

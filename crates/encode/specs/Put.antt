@@ -16,14 +16,21 @@ use Rattle.unicode.specs.Unicode.{toUtf16}
 use Rattle.written.specs.Encoding.{integerBytes, headBytes}
 use Rattle.encode.specs.declared.put.Base.{Base}
 use Rattle.encode.specs.declared.put.Base.the-variants.{Data, Ascii, Utf16, Array, Dictionary}
+use Rattle.encode.specs.declared.put.Put.{Put}
+use Rattle.encode.specs.declared.put.Put.the-variants.{Bytes, NoRoom, NoScalar}
 
 -- the memory afterwards: the bytes at its start where it has room for all of them, or unchanged
 unfoldable pub putInto : List ℕ → List ℕ → List ℕ
 putInto l s = cond (leb (length s) (length l)) (sets l 0 s) l
 
--- how many bytes were put
-unfoldable pub putLength : List ℕ → List ℕ → ℕ
-putLength l s = cond (leb (length s) (length l)) (length s) 0
+-- the answer: how many bytes they are, where there is room for all of them
+unfoldable pub putOf : List ℕ → List ℕ → Put
+putOf l s = cond (leb (length s) (length l)) (Bytes (length s)) NoRoom
+
+-- the same of a scalar's bytes: each object has a marker, so no bytes are no scalar
+unfoldable pub scalarOf : List ℕ → List ℕ → Put
+scalarOf l [] = NoScalar
+scalarOf l (b ∷ s) = putOf l (b ∷ s)
 
 -- Apple's table of objects: data 4x, ASCII 5x, UTF-16 6x, array Ax, dictionary Dx
 unfoldable pub baseOf : Base → ℕ
@@ -38,11 +45,11 @@ unfoldable pub numbered : (ℕ → List ℕ) → Value → List ℕ
 numbered f (Of n next) = f n
 numbered f NoValue = []
 
--- "integer at or above zero"
+-- an integer at or above zero (W8)
 unfoldable pub positive : ℕ → List ℕ
 positive n = integerBytes (pos n)
 
--- "negative integer n as -1 - n": in two's complement
+-- the negative integer -1 - n, in two's complement (W8)
 unfoldable pub negative : ℕ → List ℕ
 negative n = 0x13 ∷ bytesOf 8 (0xffff_ffff_ffff_ffff - n)
 

@@ -1,6 +1,6 @@
 -- What bytes that are put leave in lent memory, and in memory of which a part is lent.
 use mathlib.Core.Bool.{Bool, true, false, cond}
-use mathlib.Core.List.{List, _++_, append-assoc}
+use mathlib.Core.List.{List, [], _∷_, _++_, append-assoc}
 use mathlib.Core.Path.{_≡_, refl, sym, _∙_}
 use Prim.Native.Nat.{ℕ, _+_, _-_, _≤_, _<_}
 use native.Mathlib.Nat.{zero-add}
@@ -9,18 +9,29 @@ use borrow.Author.Tests.{le-leb, lt-leb}
 use lib.Dec.{leb}
 use lib.ListN.{length, take, drop, length-drop, take-append-drop}
 use lib.Seq.{sets, sets-eq, length-sets, length-take-le, drop-append-le, drop-drop}
-use Rattle.encode.specs.Put.{putInto, putLength}
+use Rattle.encode.specs.Put.{putInto, putOf, scalarOf}
+use Rattle.encode.specs.declared.put.Put.{Put}
+use Rattle.encode.specs.declared.put.Put.the-variants.{Bytes, NoRoom}
 
 module _ (l s : List ℕ) where
   -- bytes that fit
-  pub put-room : length s ≤ length l → (putInto l s ≡ sets l 0 s) × (putLength l s ≡ length s)
-  unfolding putInto putLength
+  pub put-room : length s ≤ length l → (putInto l s ≡ sets l 0 s) × (putOf l s ≡ Bytes (length s))
+  unfolding putInto putOf
   put-room h = (rw (le-leb (length s) (length l) h), rw (le-leb (length s) (length l) h))
 
   -- and that don't
-  pub put-none : length l < length s → (putInto l s ≡ l) × (putLength l s ≡ 0)
-  unfolding putInto putLength
+  pub put-none : length l < length s → (putInto l s ≡ l) × (putOf l s ≡ NoRoom)
+  unfolding putInto putOf
   put-none h = (rw (lt-leb (length s) (length l) h), rw (lt-leb (length s) (length l) h))
+
+  -- of a scalar too, since it has bytes
+  pub scalar-put : 0 < length s → scalarOf l s ≡ putOf l s
+  unfolding scalarOf
+  scalar-put h = go s h
+    where
+      go : (s : List ℕ) → 0 < length s → scalarOf l s ≡ putOf l s
+      go [] g = absurd (omega arith)
+      go (b ∷ t) g = refl
 
   pub length-put : length (putInto l s) ≡ length l
   unfolding putInto
@@ -46,6 +57,6 @@ module _ (l : List ℕ) (at end : ℕ) (s : List ℕ) (fits : at + length s ≤ 
 
   -- what a function that was lent the part promised of its answer r and of the part m
   pub put-lent :
-      {r : ℕ} {m : List ℕ} → (r ≡ putLength (take (end - at) (drop at l)) s) × (m ≡ putInto (take (end - at) (drop at l)) s) →
-      (r ≡ length s) × (take at l ++ (m ++ drop (end - at) (drop at l)) ≡ sets l at s)
+      {r : Put} {m : List ℕ} → (r ≡ putOf (take (end - at) (drop at l)) s) × (m ≡ putInto (take (end - at) (drop at l)) s) →
+      (r ≡ Bytes (length s)) × (take at l ++ (m ++ drop (end - at) (drop at l)) ≡ sets l at s)
   put-lent p = (p .0 ∙ put-room (take (end - at) (drop at l)) s part-room .1, rw (p .1) put-at)

@@ -22,21 +22,25 @@ use Rattle.unicode.specs.ToUtf16.{unitsIn}
 use Rattle.unicode.specs.ToUtf16Walk.{counted, length-utf16}
 use Rattle.unicode.specs.Unicode.{isAscii, isUtf8}
 use Rattle.written.specs.Encoding.{integerBytes, headBytes, textBytes, scalarBytes}
-use Rattle.written.specs.EncodingLaws.{length-number, head-length, head-le}
+use Rattle.written.specs.EncodingLaws.{length-number, head-length, head-pos, head-le}
 use Rattle.written.specs.Scalar.{IsScalar, unitsFor}
 use Rattle.encode.specs.Size.{headSize, bytesAlone, integerSize, uidSize, dataSize, partSize, textSize, sizeBehind, sizeAt}
-use Rattle.encode.specs.declared.size.Size.{Size}
+use Rattle.encode.specs.declared.size.Sized.{Sized}
+use Rattle.encode.specs.declared.size.Sized.the-variants.{Found, NoScalar}
 
 pub length-head : (base n : ℕ) → length (headBytes base n) ≡ headSize n
 unfolding headSize
 length-head base n = head-length base n
 
+pub head-some : (n : ℕ) → 0 < headSize n
+head-some n = rw (length-head 0 n) at (head-pos 0 n)
+
 pub head-size-le : (n : ℕ) → headSize n ≤ 10
 head-size-le n = rw (length-head 0 n) at (head-le 0 n)
 
 -- the bytes and units of a scalar
-abbrev sizeFor : Meaning → Size
-sizeFor m = record { bytes = length (scalarBytes m); units = unitsFor m }
+abbrev sizeFor : Meaning → Sized
+sizeFor m = Found (record { bytes = length (scalarBytes m); units = unitsFor m })
 
 -- what a kind and what stands behind it tell
 integer-size : (n next : ℕ) → integerSize (Of n next) ≡ sizeFor (integer (pos n))
@@ -75,7 +79,7 @@ module _ (tape : List ℕ) (k at : ℕ) where
   unfolding sizeBehind
   behind-nine h g = rw (le-leb 0x01 k (omega arith), lt-leb k 0x02 (omega arith), le-leb 0x04 k h, le-leb k 0x06 (omega arith))
 
-  pub behind-none : (k < 1) ⊎ (7 ≤ k) → (k ≡ 0x07 → ⊥) → (k ≡ 0x08 → ⊥) → (k ≡ 0x09 → ⊥) → sizeBehind tape k at ≡ bytesAlone 0
+  pub behind-none : (k < 1) ⊎ (7 ≤ k) → (k ≡ 0x07 → ⊥) → (k ≡ 0x08 → ⊥) → (k ≡ 0x09 → ⊥) → sizeBehind tape k at ≡ NoScalar
   unfolding sizeBehind
   behind-none (inl h) f g i = let e : k ≡ 0 = omega arith in rw e
   behind-none (inr h) f g i =
@@ -90,7 +94,7 @@ module _ (tape : List ℕ) (at : ℕ) where
   unfolding sizeAt
   size-of k h e = rw (lt-ltb at (length tape) h, e)
 
-  pub size-past : length tape ≤ at → sizeAt tape at ≡ bytesAlone 0
+  pub size-past : length tape ≤ at → sizeAt tape at ≡ NoScalar
   unfolding sizeAt
   size-past h = rw (le-ltb at (length tape) h)
 
@@ -122,7 +126,7 @@ module _ (tape : List ℕ) (at : ℕ) where
     size-written (uid n) i h st = size-there st ∙ rw (number-there n (h .0) st) (uid-size n next)
 
     -- the size of a scalar that is read at a place
-    pub size-scalar : (m : Meaning) → Bytes tape → readAt tape at ≡ event m next → IsScalar m → sizeAt tape at ≡ record { bytes = length (scalarBytes m); units = unitsFor m }
+    pub size-scalar : (m : Meaning) → Bytes tape → readAt tape at ≡ event m next → IsScalar m → sizeAt tape at ≡ Found (record { bytes = length (scalarBytes m); units = unitsFor m })
     size-scalar m good e i =
         let w = reads-written tape at m next good e in
         size-written m i (w .held) (w .stands)

@@ -3,18 +3,24 @@ use number::size::size_for;
 use tape::room::lacks_room;
 use tape::value::Value;
 use tape::value::number_at;
-use unicode::to_utf16::units_in;
+use unicode::unchecked;
 use unicode::utf8::is_ascii;
 ghost use mathlib.Core.Path.{_≡_};
 ghost use Prim.Native.Nat.{_+_, _^_, _<_};
 ghost use lib.ListN.{length};
-ghost use Rattle.encode.specs.Size.{headSize, bytesAlone, integerSize, uidSize, dataSize, partSize, textSize, sizeAt};
+ghost use Rattle.encode.specs.Size.{headSize, bytesAlone, integerSize, uidSize, dataSize, partSize, textSize};
 ghost use Rattle.tape.specs.Value.{numberAt};
 
 // The bytes of a scalar; of a text that isn't ASCII also its units, else 0.
 pub struct Size {
     pub bytes: usize,
     pub units: usize,
+}
+
+// That, or that no scalar stands there.
+pub enum Sized {
+    Found(Size),
+    NoScalar,
 }
 
 // A marker, and behind it a length that the marker doesn't hold.
@@ -27,38 +33,19 @@ pub fn head_size(length: usize) -> usize
     2 + size_for(length as u64)
 }
 
-// The scalar at a place of a tape; 0 where none stands there. A real or a date need not be whole.
-pub fn size_of(tape: &[u8], at: usize) -> Size
-    ensures { λ r. ⌜ r ≡ sizeAt (now (tape .entry)) at ⌝ }
-{
-    if tape.len() <= at {
-        return bytes_alone(0);
-    }
-    let next = at + 1;
-    match tape[at] {
-        0x01 | 0x02 => bytes_alone(1),
-        0x03 => integer_size(number_at(tape, next)),
-        0x04 | 0x05 | 0x06 => bytes_alone(9),
-        0x07 => uid_size(number_at(tape, next)),
-        0x08 => data_size(tape.len(), number_at(tape, next)),
-        0x09 => text_size(tape, next),
-        _ => bytes_alone(0),
-    }
-}
-
 // All but text in UTF-16 has no units.
-fn bytes_alone(bytes: usize) -> Size
+pub(crate) fn bytes_alone(bytes: usize) -> Sized
     ensures { λ r. ⌜ r ≡ bytesAlone bytes ⌝ }
 {
-    Size { bytes, units: 0 }
+    Sized::Found(Size { bytes, units: 0 })
 }
 
 // An integer at or above zero; from 2^63 on it takes 16 bytes.
-fn integer_size(number: Value) -> Size
+pub(crate) fn integer_size(number: Value) -> Sized
     ensures { λ r. ⌜ r ≡ integerSize number ⌝ }
 {
     let Value::Of(n, _) = number else {
-        return bytes_alone(0);
+        return Sized::NoScalar;
     };
     if n < 0x8000_0000_0000_0000 {
         return bytes_alone(1 + size_for(n));
@@ -66,25 +53,25 @@ fn integer_size(number: Value) -> Size
     bytes_alone(17)
 }
 
-fn uid_size(number: Value) -> Size
+pub(crate) fn uid_size(number: Value) -> Sized
     ensures { λ r. ⌜ r ≡ uidSize number ⌝ }
 {
     let Value::Of(n, _) = number else {
-        return bytes_alone(0);
+        return Sized::NoScalar;
     };
     bytes_alone(1 + size_for(n))
 }
 
 // Data, which must lie within the tape.
-fn data_size(end: usize, length: Value) -> Size
+pub(crate) fn data_size(end: usize, length: Value) -> Sized
     requires { ⌜ end < 2 ^ 63 ⌝ }
     ensures { λ r. ⌜ r ≡ dataSize end length ⌝ }
 {
     let Value::Of(n, start) = length else {
-        return bytes_alone(0);
+        return Sized::NoScalar;
     };
     if lacks_room(end, start, n as usize) {
-        return bytes_alone(0);
+        return Sized::NoScalar;
     }
     bytes_alone(run_size(n as usize))
 }
@@ -98,33 +85,33 @@ fn run_size(length: usize) -> usize
 }
 
 // Text, which must lie within the tape.
-fn text_size(tape: &[u8], at: usize) -> Size
+pub(crate) fn text_size(tape: &[u8], at: usize) -> Sized
     ensures { λ r. ⌜ r ≡ textSize (now (tape .entry)) (numberAt (now (tape .entry)) at) ⌝ }
 {
     let Value::Of(n, start) = number_at(tape, at) else {
-        return bytes_alone(0);
+        return Sized::NoScalar;
     };
     if lacks_room(tape.len(), start, n as usize) {
-        return bytes_alone(0);
+        return Sized::NoScalar;
     }
     let end = start + n as usize;
     part_size(&tape[start..end])
 }
 
 // A text's own bytes, where they are ASCII, else its units. UTF-8 has no more units than bytes.
-fn part_size(text: &[u8]) -> Size
+fn part_size(text: &[u8]) -> Sized
     requires { ⌜ length (now text) + 5 < 2 ^ 63 ⌝ }
     ensures { λ r. ⌜ r ≡ partSize (now (text .entry)) ⌝ }
 {
     if is_ascii(text) {
         return bytes_alone(run_size(text.len()));
     }
-    let units = units_in(text);
+    let units = unchecked::units_in(text);
     if text.len() < units {
-        return bytes_alone(0);
+        return Sized::NoScalar;
     }
-    Size {
+    Sized::Found(Size {
         bytes: head_size(units) + units * 2,
         units,
-    }
+    })
 }

@@ -1,10 +1,14 @@
 pub mod Bare
+pub mod Computed
 pub mod Date
 pub mod DateLaws
 pub mod Format
 pub mod Meaning
+pub mod Numbers
+pub mod NumbersLaws
 pub mod Real
 pub mod RealCases
 pub mod RealLaws
 pub mod Same
 pub mod SameLaws
+pub mod Unmeasured

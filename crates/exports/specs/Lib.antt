@@ -1,8 +1,12 @@
 pub mod Codes
 pub mod CodesLaws
 pub mod Date
+pub mod DateLaws
 pub mod TapeAppend
+pub mod TapeAppendLaws
 pub mod TapeStep
+pub mod TapeStepLaws
 pub mod Transcript
+pub mod TranscriptLaws
 pub mod Write
 pub mod WriteLaws

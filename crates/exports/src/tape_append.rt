@@ -12,6 +12,7 @@ ghost use mathlib.Core.Path.{_≡_};
 ghost use Prim.Native.Nat.{ℕ};
 ghost use Rattle.number.specs.Signed.{negativeOf};
 ghost use Rattle.tape.specs.Append.{said};
+ghost use Rattle.exports.specs.Codes.{Lent};
 ghost use Rattle.exports.specs.TapeAppend.{meaningFor, negativeFor, chosenMeaning, heldNumber, appendNumber, appendedTape};
 
 // The event of a kind and a number, where there is one.
@@ -33,6 +34,7 @@ pub extern "C" fn zm_tape_append(
 ) -> u64
     ensures { λ r. ⌜ r ≡ appendNumber (now (tape .entry)) held (meaningFor kind value (now (bytes .entry))) ⌝ }
     ensures { λ _. ⌜ now (tape .exit) ≡ appendedTape (now (tape .entry)) held (meaningFor kind value (now (bytes .entry))) ⌝ }
+    ensures { λ _. ⌜ Lent (now (tape .entry)) ⌝ }
 {
     let Chosen::Event(event) = event_for(kind, value) else {
         return 0xffff_ffff_ffff_fffd;

@@ -6,6 +6,7 @@ use writer::answer::Written;
 use writer::write_file;
 ghost use mathlib.Core.Path.{_≡_};
 ghost use lib.ListN.{length, drop};
+ghost use Rattle.number.specs.BeLaws.{Bytes};
 ghost use Rattle.grammar.specs.Said.{kindsOf};
 ghost use Rattle.writer.specs.Write.{writtenSaid, writeOf, outputOf, usedOf};
 ghost use Rattle.exports.specs.Write.{kindNumber, firstNumber, secondNumber, writeCode, writeValue, expectedNumber, foundNumber};
@@ -27,6 +28,7 @@ pub extern "C" fn zm_write(
     ensures { λ _. ⌜ now (found .exit) ≡ foundNumber (writeOf (now (tape .entry)) (length (now (work .entry))) (length (now (out .entry)))) ⌝ }
     ensures { λ _. ⌜ now (out .exit) ≡ outputOf (now (tape .entry)) (length (now (work .entry))) (now (out .entry)) ⌝ }
     ensures { λ _. ⌜ drop (usedOf (now (tape .entry)) (length (now (work .entry)))) (now (work .exit)) ≡ drop (usedOf (now (tape .entry)) (length (now (work .entry)))) (now (work .entry)) ⌝ }
+    ensures { λ _. ⌜ Bytes (now (tape .entry)) ⌝ }
 {
     let written = write_file(tape, work, out);
     *value = write_value(written);

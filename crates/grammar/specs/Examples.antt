@@ -5,13 +5,11 @@ use mathlib.Core.Option.{none}
 use mathlib.Core.Path.{_≡_, refl}
 use lib.IntN.{pos}
 use lib.ListN.{replicate}
-use Rattle.event.specs.Meaning.{array, dictionary, close, boolean, bytes, date, integer, real, text, uid, meaningOf, valueOf, givenOf}
-use Rattle.tape.specs.Item.{plain, bytesAt, numbered, textIn, ofKind, itemAt, meaningIn, readingOf, readAt}
-use Rattle.tape.specs.Value.{onto, numberFrom, numberAt}
-use Rattle.unicode.specs.Unicode.{isUtf8, wellFormed, rowOf, table, within}
-use Rattle.grammar.specs.Check.{moveOf, finishOf, checkFrom, checkOf}
-use Rattle.grammar.specs.Said.{whole, refused, numberOf, kindsOf, refusedAt}
-use Rattle.grammar.specs.Turn.{isNothing, afterOf, unexpectedOf, unlessKey, endTurn, textTurn, turnOf, stoppedAt, turnBy, turnAt}
+use Rattle.event.specs.Meaning.{array, dictionary, close, boolean, bytes, date, integer, real, text, uid}
+use Rattle.grammar.specs.Check.{checkOf}
+use Rattle.grammar.specs.Computed.{computed}
+use Rattle.grammar.specs.Said.{whole, refused}
+use Rattle.grammar.specs.Turn.{unexpectedOf, turnOf}
 use Rattle.grammar.specs.declared.answer.EventKind.the-variants.{ValueOrStartCollection, DictionaryKeyOrEndCollection, StartArray, StartDictionary, EndCollection, Boolean, Data, Date, Integer, Real, Uid}
 use Rattle.grammar.specs.declared.turn.Due.the-variants.{Key, Value}
 use Rattle.grammar.specs.declared.turn.Turn.the-variants.{Pass, Close}
@@ -26,7 +24,7 @@ pub roots :
     (0x0B ∷ 0x03 ∷ 0x03 ∷ 0x01 ∷ 0x09 ∷ 0x01 ∷ 0x61 ∷ 0x03 ∷ 0x01 ∷ 0x0E ∷ []) ∷
     []) ≡
     (whole 1 ∷ whole 2 ∷ whole 2 ∷ whole 6 ∷ whole 5 ∷ [])
-unfolding checkOf checkFrom finishOf moveOf isNothing afterOf unlessKey endTurn textTurn turnOf turnBy turnAt plain bytesAt numbered textIn ofKind itemAt meaningIn readingOf readAt onto numberFrom numberAt isUtf8 wellFormed rowOf table within meaningOf valueOf givenOf
+unfolding computed
 roots = refl
 
 -- the empty tape; an array without its end; true behind true; what is no event behind true: 23 comes before 20; what is no event in an array,
@@ -53,7 +51,7 @@ pub refusals :
     refused 21 (DictionaryKeyOrEndCollection ∷ EndCollection ∷ []) 4 ∷
     refused 21 (DictionaryKeyOrEndCollection ∷ Boolean ∷ []) 1 ∷
     [])
-unfolding checkOf checkFrom finishOf moveOf refusedAt numberOf kindsOf isNothing afterOf unexpectedOf unlessKey endTurn textTurn turnOf stoppedAt turnBy turnAt plain bytesAt numbered textIn ofKind itemAt meaningIn readingOf readAt onto numberFrom numberAt isUtf8 wellFormed rowOf table within meaningOf
+unfolding computed
 refusals = refl
 
 -- 64 arrays, each in the last; 65, which gives 15 at the 65th; a dictionary in 63 of them, where an array comes as a key: 21 comes before 15
@@ -61,7 +59,7 @@ pub deep :
     map checkOf
     ((replicate 64 0x0A ++ replicate 64 0x0E) ∷ replicate 65 0x0A ∷ (replicate 63 0x0A ++ (0x0C ∷ 0x0A ∷ [])) ∷ []) ≡
     (whole 128 ∷ refused 15 [] 64 ∷ refused 21 (DictionaryKeyOrEndCollection ∷ StartArray ∷ []) 64 ∷ [])
-unfolding checkOf checkFrom finishOf moveOf refusedAt numberOf kindsOf isNothing afterOf unexpectedOf unlessKey endTurn turnOf turnBy turnAt plain ofKind itemAt meaningIn readingOf readAt meaningOf givenOf
+unfolding computed
 deep = refl
 
 -- what a key may be, and what else is found where one is due
@@ -69,5 +67,5 @@ pub keys :
     map (turnOf Key)
     (text [] ∷ close ∷ array none ∷ dictionary none ∷ boolean true ∷ bytes [] ∷ date 0 ∷ integer (pos 0) ∷ real 0 ∷ uid 0 ∷ []) ≡
     (Pass Value ∷ Close ∷ map (unexpectedOf DictionaryKeyOrEndCollection) (StartArray ∷ StartDictionary ∷ Boolean ∷ Data ∷ Date ∷ Integer ∷ Real ∷ Uid ∷ []))
-unfolding turnOf unlessKey endTurn textTurn isNothing afterOf
+unfolding computed
 keys = refl

@@ -15,13 +15,12 @@ use Rattle.tape.specs.Item.{Reading, event, bad, readAt}
 use Rattle.grammar.specs.Check.{Move, onto, barred, moveOf, finishOf, checkFrom, checkOf}
 use Rattle.grammar.specs.Fits.{fitsFrom}
 use Rattle.grammar.specs.Said.{whole, refusedAt}
-use Rattle.grammar.specs.Turn.{isNothing, stoppedAt, turnBy, turnOf, turnAt}
+use Rattle.grammar.specs.Turn.{isNothing, Turned, stoppedAt, turnBy, turnOf, turnAt}
 use Rattle.grammar.specs.TurnLaws.{turn-trails}
 use Rattle.grammar.specs.declared.answer.Refusal.{Refusal}
 use Rattle.grammar.specs.declared.answer.Refusal.the-variants.{TooLong, IncompleteRoot, TrailingEvents}
 use Rattle.grammar.specs.declared.turn.Due.{Due}
 use Rattle.grammar.specs.declared.turn.Due.the-variants.{Root}
-use Rattle.grammar.specs.declared.turn.Turned.{Turned}
 
 not-whole : (r : Refusal) (place m : ℕ) → refusedAt r place ≡ whole m → ⊥
 unfolding refusedAt
@@ -121,7 +120,7 @@ tail-whole m (wholeTape ns) ms e = let f : m ∷ ns ≡ ms = cc in (ns, refl, sy
 tail-whole m (broken ns place) ms e = let z : _≡_ {A = ℕ} 0 1 = cc in absurd (omega arith)
 
 -- an event that fits moves the machine on, and so do those behind it
-pub fits-move : (due : Due) (around : List Due) (m : Meaning) (ms : List Meaning) → fitsFrom due around (m ∷ ms) ≡ true → (d : Due) × (ds : List Due) × (moveOf (turnOf due m) due around ≡ onto d ds) × (fitsFrom d ds ms ≡ true)
+fits-move : (due : Due) (around : List Due) (m : Meaning) (ms : List Meaning) → fitsFrom due around (m ∷ ms) ≡ true → (d : Due) × (ds : List Due) × (moveOf (turnOf due m) due around ≡ onto d ds) × (fitsFrom d ds ms ≡ true)
 unfolding fitsFrom
 fits-move due around m ms e = go (moveOf (turnOf due m) due around) refl
   where

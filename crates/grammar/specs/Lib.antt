@@ -1,8 +1,15 @@
 pub mod Check
+pub mod Computed
 pub mod Examples
 pub mod Fits
 pub mod FitsLaws
+pub mod More
+pub mod MoreLaws
 pub mod Said
 pub mod SaidLaws
 pub mod Turn
 pub mod TurnLaws
+pub mod Verdict
+pub mod VerdictLaws
+pub mod Way
+pub mod WayLaws

@@ -12,7 +12,6 @@ use Rattle.grammar.specs.declared.turn.Due.{Due}
 use Rattle.grammar.specs.declared.turn.Due.the-variants.{Root, Element, Key, Value, Nothing}
 use Rattle.grammar.specs.declared.turn.Turn.{Turn}
 use Rattle.grammar.specs.declared.turn.Turn.the-variants.{Pass, Open, Close, Stop}
-use Rattle.grammar.specs.declared.turn.Turned.{Turned}
 
 unfoldable pub isNothing : Due → Bool
 isNothing Root = false
@@ -64,6 +63,11 @@ turnOf due (integer z) = unlessKey due Integer (Pass (afterOf due))
 turnOf due (real b) = unlessKey due Real (Pass (afterOf due))
 turnOf due (text s) = textTurn due
 turnOf due (uid n) = unlessKey due Uid (Pass (afterOf due))
+
+-- the turn of what stands at a place of a tape, and where the next event begins
+pub record Turned : Type 0 where
+  pub turn : Turn
+  pub next : ℕ
 
 unfoldable pub stoppedAt : Refusal → ℕ → Turned
 stoppedAt r at = record { turn = Stop r; next = at }

@@ -4,6 +4,7 @@ use mathlib.Core.List.{List, []}
 use mathlib.Core.Path.{_≡_, refl}
 use Prim.Native.Nat.{ℕ}
 use Rattle.event.specs.Meaning.{Meaning, array, dictionary, close, boolean, bytes, date, integer, real, text, uid, meaningOf}
+use Rattle.event.specs.Unmeasured.{unmeasured}
 use Rattle.event.specs.declared.Event.{Event}
 use Rattle.event.specs.declared.Event.the-variants.{StartArray, StartDictionary, EndCollection, Boolean, Data, Date, Integer, Real, Nan, String, Uid}
 use Rattle.grammar.specs.Turn.{isNothing, unlessKey, endTurn, textTurn, turnOf}
@@ -26,6 +27,20 @@ turn-any due (Real x) s = refl
 turn-any due (Nan b) s = refl
 turn-any due String s = refl
 turn-any due (Uid n) s = refl
+
+-- given lengths don't count
+pub turn-unmeasured : (due : Due) (m : Meaning) → turnOf due (unmeasured m) ≡ turnOf due m
+unfolding turnOf unmeasured
+turn-unmeasured due (array n) = refl
+turn-unmeasured due (dictionary n) = refl
+turn-unmeasured due close = refl
+turn-unmeasured due (boolean b) = refl
+turn-unmeasured due (bytes s) = refl
+turn-unmeasured due (date b) = refl
+turn-unmeasured due (integer z) = refl
+turn-unmeasured due (real b) = refl
+turn-unmeasured due (text s) = refl
+turn-unmeasured due (uid n) = refl
 
 -- behind the root every event is one too many
 trails : (m : Meaning) → turnOf Nothing m ≡ Stop TrailingEvents

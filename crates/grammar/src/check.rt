@@ -1,12 +1,10 @@
 // A tape is one whole root, or why not.
 use crate::answer::Checked;
-use crate::answer::EventKind;
 use crate::answer::Refusal;
 use crate::turn::Due;
-use crate::turn::Turn;
-use crate::turn::after;
 use crate::turn::is_nothing;
-use crate::turn::turn_at;
+use crate::way::Way;
+use crate::way::way_at;
 use event::limits::MAX_LENGTH;
 use event::limits::MAX_OPEN;
 ghost use mathlib.Core.Path.{_≡_};
@@ -28,40 +26,28 @@ pub fn check_tape(tape: &[u8]) -> Checked
     let mut at: usize = 0;
     while at < tape.len() {
         let place = at as u64;
-        let turned = turn_at(tape, at, due);
-        let turn = turned.turn;
+        let gone = way_at(tape, at, due, depth);
+        let way = gone.way;
         events += 1;
-        at = turned.next;
-        match turn {
-            Turn::Stop(refusal) => {
-                return Checked::Refused(refusal, place);
-            }
-            Turn::Pass(next) => {
+        at = gone.next;
+        match way {
+            Way::Past(next) => {
                 due = next;
                 continue;
             }
-            Turn::Open(first) => {
-                if MAX_OPEN <= depth {
-                    return Checked::Refused(Refusal::TooDeep, place);
-                }
-                around[depth] = after(due);
+            Way::Into(first, behind) => {
+                around[depth] = behind;
                 depth += 1;
                 due = first;
                 continue;
             }
-            Turn::Close => {
-                if depth == 0 {
-                    return Checked::Refused(
-                        Refusal::UnexpectedEventType(
-                            EventKind::ValueOrStartCollection,
-                            EventKind::EndCollection,
-                        ),
-                        place,
-                    );
-                }
+            Way::Out => {
                 depth -= 1;
                 due = around[depth];
                 continue;
+            }
+            Way::Barred(refusal) => {
+                return Checked::Refused(refusal, place);
             }
         }
     }

@@ -2,3 +2,4 @@
 pub mod answer;
 pub mod check;
 pub mod turn;
+pub mod way;

@@ -2,12 +2,10 @@
 use crate::answer::EventKind;
 use crate::answer::Refusal;
 use event::Event;
-use tape::item::Step;
-use tape::step::quick_step;
 ghost use mathlib.Core.List.{[]};
 ghost use mathlib.Core.Path.{_≡_};
 ghost use Rattle.event.specs.Meaning.{meaningOf};
-ghost use Rattle.grammar.specs.Turn.{isNothing, afterOf, unexpectedOf, unlessKey, endTurn, textTurn, turnOf, stoppedAt, turnAt};
+ghost use Rattle.grammar.specs.Turn.{isNothing, afterOf, unexpectedOf, unlessKey, endTurn, textTurn, turnOf};
 
 // What may come: the root, an element of an array, a key or a value of a dictionary, or nothing any more.
 pub enum Due {
@@ -19,6 +17,7 @@ pub enum Due {
 }
 
 // An event is passed, and something is due behind it; it opens a container, in which something is due; it closes one; or it is refused.
+// How many containers are open doesn't count here. No public function answers it; it is public since laws of other crates go by its cases.
 pub enum Turn {
     Pass(Due),
     Open(Due),
@@ -26,14 +25,8 @@ pub enum Turn {
     Stop(Refusal),
 }
 
-// That, and where the next event begins.
-pub(crate) struct Turned {
-    pub turn: Turn,
-    pub next: usize,
-}
-
-// The turn of an event, on a tape or not: 23, then 21. The caller counts what is open, so 15, and 21 for an end with nothing open, are its own.
-pub fn turn_of(due: Due, event: Event) -> Turn
+// The turn of an event: 23, then 21, but for an end with nothing open.
+pub(crate) fn turn_of(due: Due, event: Event) -> Turn
     ensures { λ r. ⌜ r ≡ turnOf due (meaningOf event []) ⌝ }
 {
     match event {
@@ -50,32 +43,6 @@ pub fn turn_of(due: Due, event: Event) -> Turn
         Event::Nan(_) => unless_key(due, EventKind::Real, Turn::Pass(after(due))),
         Event::String => text_turn(due),
         Event::Uid(_) => unless_key(due, EventKind::Uid, Turn::Pass(after(due))),
-    }
-}
-
-// The turn of the event at a place of a tape: 23, then 20, then 21.
-pub(crate) fn turn_at(tape: &[u8], at: usize, due: Due) -> Turned
-    ensures { λ r. ⌜ r ≡ turnAt (now (tape .entry)) at due ⌝ }
-{
-    if is_nothing(due) {
-        return stopped(Refusal::TrailingEvents, at);
-    }
-    let Step::Item(item) = quick_step(tape, at) else {
-        return stopped(Refusal::BadTape, at);
-    };
-    let event = item.event;
-    Turned {
-        turn: turn_of(due, event),
-        next: item.next,
-    }
-}
-
-fn stopped(refusal: Refusal, at: usize) -> Turned
-    ensures { λ r. ⌜ r ≡ stoppedAt refusal at ⌝ }
-{
-    Turned {
-        turn: Turn::Stop(refusal),
-        next: at,
     }
 }
 

@@ -1,4 +1,5 @@
 pub mod Bytes
+pub mod Computed
 pub mod FoundLaws
 pub mod Frame
 pub mod Layout

@@ -16,6 +16,7 @@ ghost use Rattle.number.specs.Be.{be};
 ghost use Rattle.number.specs.Part.{part};
 ghost use Rattle.layout.specs.declared.layout.Entry.the-variants.{Of, Outside};
 ghost use Rattle.layout.specs.Layout.{numberAt, entryAt, dueAt, inArray, inDictionary, dueIn, dueOf, standsAt};
+ghost use Rattle.layout.specs.Said.{dueSaid};
 
 pub struct Layout {
     pub offsets: Width,
@@ -30,7 +31,7 @@ pub enum Entry {
     Outside,
 }
 
-// What is due in an open container.
+// What is due in an open container: nothing, since it isn't the one that the state says (17); its end, with its offset; or an object.
 pub enum Due {
     Wrong,
     Close(u64),
@@ -110,7 +111,7 @@ pub(crate) fn entry_at(file: &[u8], layout: Layout, object: u32) -> Entry
 
 // What is due in an open container: it is looked at again where its entry says that it stands.
 pub fn due_at(file: &[u8], layout: Layout, frame: Frame) -> Due
-    ensures { λ r. ⌜ r ≡ dueOf (now (file .entry)) layout frame ⌝ }
+    ensures { λ r. ⌜ dueSaid r ≡ dueSaid (dueOf (now (file .entry)) layout frame) ⌝ }
 {
     due_in(file, layout, frame, stands_at(file, layout, frame.object))
 }
@@ -133,7 +134,7 @@ pub fn stands_at(file: &[u8], layout: Layout, object: u32) -> Standing
 
 // What is due in a container that was looked at already.
 pub fn due_in(file: &[u8], layout: Layout, frame: Frame, standing: Standing) -> Due
-    ensures { λ r. ⌜ r ≡ dueIn (now (file .entry)) layout frame (standing .offset) (standing .container) ⌝ }
+    ensures { λ r. ⌜ dueSaid r ≡ dueSaid (dueIn (now (file .entry)) layout frame (standing .offset) (standing .container)) ⌝ }
 {
     let refs = layout.refs;
     let offset = standing.offset;

@@ -8,18 +8,18 @@ use event::Length;
 use object::read::Object;
 use object::read::Part;
 use object::read::object_at;
+use object::refusal::Refusal as ObjectRefusal;
 ghost use mathlib.Core.Path.{_≡_};
 ghost use Rattle.layout.specs.Layout.{lookOf};
 ghost use Rattle.layout.specs.Looked.{withPlace, startOf};
 ghost use Rattle.layout.specs.Bytes.{lookedBytes};
-ghost use Rattle.layout.specs.Said.{Same, lookSaid, lookBytes, shapeSaid};
+ghost use Rattle.layout.specs.Said.{lookSaid, lookBytes, shapeSaid};
 
-// Where the bytes of a record stand: in the file as they are, in the file as UTF-16, or nowhere, since it has none; or the file doesn't give it.
-pub enum Asked {
+// Where the bytes of a scalar stand: in the file as they are, in the file as UTF-16, or nowhere, since it has none.
+pub enum Span {
     InFile(Part),
     InUtf16(Part),
     NoBytes,
-    Denied(Refusal),
 }
 
 pub enum Shape {
@@ -27,10 +27,12 @@ pub enum Shape {
     Dictionary,
 }
 
-// What an object is: refused, with the place; a scalar with where its bytes stand, or a container with its length, and its offset.
+// What an object is: not in this file (17); refused, with the place; a scalar with where its bytes stand, or a container with its length, and its
+// offset.
 pub enum Look {
+    Missing,
     Refused(Refusal, u64),
-    Scalar(Event, Asked, u64),
+    Scalar(Event, Span, u64),
     Container(Shape, u64, u64),
 }
 
@@ -44,35 +46,21 @@ pub fn look_up(file: &[u8], layout: Layout, object: u64, place: u64) -> Look
         return Look::Refused(Refusal::ObjectReferenceTooLarge, place);
     }
     let Entry::Of(offset) = entry_at(file, layout, object as u32) else {
-        return Look::Refused(Refusal::WrongFile, 0);
+        return Look::Missing;
     };
     let refs = layout.refs;
     match object_at(file, refs, offset as usize) {
-        Object::Outside => Look::Refused(Refusal::ObjectOffsetTooLarge, place),
-        Object::Refused(refusal) => Look::Refused(refusal_of(refusal), offset),
-        Object::Scalar(event) => Look::Scalar(event, Asked::NoBytes, offset),
-        Object::Data(part) => Look::Scalar(Event::Data, Asked::InFile(part), offset),
-        Object::Utf8(part) => Look::Scalar(Event::String, Asked::InFile(part), offset),
-        Object::Utf16(part) => Look::Scalar(Event::String, Asked::InUtf16(part), offset),
+        Object::Outside => Look::Refused(
+            Refusal::Object(ObjectRefusal::ObjectOffsetTooLarge),
+            place,
+        ),
+        Object::Refused(refusal) => Look::Refused(Refusal::Object(refusal), offset),
+        Object::Scalar(event) => Look::Scalar(event, Span::NoBytes, offset),
+        Object::Data(part) => Look::Scalar(Event::Data, Span::InFile(part), offset),
+        Object::Utf8(part) => Look::Scalar(Event::String, Span::InFile(part), offset),
+        Object::Utf16(part) => Look::Scalar(Event::String, Span::InUtf16(part), offset),
         Object::Array(length) => Look::Container(Shape::Array, length, offset),
         Object::Dictionary(length) => Look::Container(Shape::Dictionary, length, offset),
-    }
-}
-
-// An object's refusal is the reader's.
-fn refusal_of(refusal: object::refusal::Refusal) -> Refusal
-    ensures { λ r. ⌜ Same refusal r ⌝ }
-{
-    match refusal {
-        object::refusal::Refusal::ObjectOffsetTooLarge => Refusal::ObjectOffsetTooLarge,
-        object::refusal::Refusal::NullObjectUnimplemented => Refusal::NullObjectUnimplemented,
-        object::refusal::Refusal::FillObjectUnimplemented => Refusal::FillObjectUnimplemented,
-        object::refusal::Refusal::UnknownObjectType(marker) => Refusal::UnknownObjectType(marker),
-        object::refusal::Refusal::IntegerOutOfRange => Refusal::IntegerOutOfRange,
-        object::refusal::Refusal::InvalidUtf8String => Refusal::InvalidUtf8String,
-        object::refusal::Refusal::InvalidUtf16String => Refusal::InvalidUtf16String,
-        object::refusal::Refusal::InvalidObjectLength => Refusal::InvalidObjectLength,
-        object::refusal::Refusal::OverflowOrNanDate => Refusal::OverflowOrNanDate,
     }
 }
 

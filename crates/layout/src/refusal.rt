@@ -1,28 +1,18 @@
-// Why a file is not read, and its numbers.
+// Why a file is not read, and the numbers of that.
+use object::refusal::Refusal as ObjectRefusal;
 ghost use mathlib.Core.Path.{_≡_};
 ghost use Rattle.layout.specs.Said.{numberOf};
 
-// The refusals, by the names of docs/FORMAT.md, N.
+// An object's refusals, and those of the file, its trailer and its references, by the names of docs/FORMAT.md, N. What ends beyond T is an object's
+// refusal (6) everywhere: of an object, of a table entry, of the table itself.
 pub enum Refusal {
     TooLong,
     EndOfInput,
     InvalidMagic,
     InvalidTrailerObjectOffsetSize,
     InvalidTrailerObjectReferenceSize,
-    ObjectOffsetTooLarge,
     ObjectReferenceTooLarge,
-    NullObjectUnimplemented,
-    FillObjectUnimplemented,
-    UnknownObjectType(u8),
-    IntegerOutOfRange,
-    InvalidUtf8String,
-    InvalidUtf16String,
-    RecursiveObject,
-    TooDeep,
-    NoRoomForText,
-    WrongFile,
-    InvalidObjectLength,
-    OverflowOrNanDate,
+    Object(ObjectRefusal),
 }
 
 // A refusal's number (docs/FORMAT.md, N).
@@ -35,19 +25,7 @@ pub fn number_of(refusal: Refusal) -> u32
         Refusal::InvalidMagic => 3,
         Refusal::InvalidTrailerObjectOffsetSize => 4,
         Refusal::InvalidTrailerObjectReferenceSize => 5,
-        Refusal::ObjectOffsetTooLarge => 6,
         Refusal::ObjectReferenceTooLarge => 7,
-        Refusal::NullObjectUnimplemented => 8,
-        Refusal::FillObjectUnimplemented => 9,
-        Refusal::UnknownObjectType(_) => 10,
-        Refusal::IntegerOutOfRange => 11,
-        Refusal::InvalidUtf8String => 12,
-        Refusal::InvalidUtf16String => 13,
-        Refusal::RecursiveObject => 14,
-        Refusal::TooDeep => 15,
-        Refusal::NoRoomForText => 16,
-        Refusal::WrongFile => 17,
-        Refusal::InvalidObjectLength => 31,
-        Refusal::OverflowOrNanDate => 34,
+        Refusal::Object(of_object) => object::refusal::number_of(of_object),
     }
 }

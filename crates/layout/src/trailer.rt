@@ -8,6 +8,7 @@ use number::width::Size;
 use number::width::Width;
 use number::width::bytes_in;
 use number::width::width_of;
+use object::refusal::Refusal as ObjectRefusal;
 ghost use mathlib.Core.Path.{_≡_};
 ghost use Prim.Native.Nat.{_+_, _-_, _≤_};
 ghost use lib.ListN.{length, getD};
@@ -84,10 +85,10 @@ fn read_table(file: &[u8], offsets: Width, refs: Width) -> TrailerRead
     let root = eight_at(file, top + 16);
     let table = eight_at(file, top + 24);
     if (top as u64) < table {
-        return TrailerRead::Ends(Refusal::ObjectOffsetTooLarge, table);
+        return TrailerRead::Ends(Refusal::Object(ObjectRefusal::ObjectOffsetTooLarge), table);
     }
     if (top as u64 - table) / (bytes_in(offsets) as u64) < count {
-        return TrailerRead::Ends(Refusal::ObjectOffsetTooLarge, table);
+        return TrailerRead::Ends(Refusal::Object(ObjectRefusal::ObjectOffsetTooLarge), table);
     }
     TrailerRead::Lays(
         Layout {

@@ -1,4 +1,2 @@
-pub mod Counting
-pub mod Sign
+pub mod Spaced
 pub mod Turns
-pub mod Written

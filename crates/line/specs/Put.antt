@@ -1,25 +1,12 @@
--- A line put into lent memory from a place on: whole, where it fits; else nothing changes.
-use mathlib.Core.Bool.{cond}
+-- The lines of one word about the listing itself. docs/FORMAT.md, L1 and L3.
 use mathlib.Core.List.{List, []}
-use Prim.Native.Nat.{ℕ, _+_}
-use lib.Dec.{leb}
-use lib.ListN.{length}
-use lib.Seq.{sets}
-use Rattle.line.specs.Line.{row, word-events, word-end, word-stopped}
+use Prim.Native.Nat.{ℕ}
+use Rattle.digits.specs.Ascii.{ascii}
+use Rattle.line.specs.Line.{row}
 use Rattle.line.specs.declared.put.Fixed.{Fixed}
-use Rattle.line.specs.declared.put.Fixed.the-variants.{Events, End as EndLine, Stopped}
-use Rattle.line.specs.declared.put.Put.{Put}
-use Rattle.line.specs.declared.put.Put.the-variants.{End, NoRoom}
-
--- the answer: the place after the line
-unfoldable pub putEnd : List ℕ → ℕ → List ℕ → Put
-putEnd out at line = cond (leb (at + length line) (length out)) (End (at + length line)) NoRoom
-
--- the memory afterwards
-unfoldable pub putInto : List ℕ → ℕ → List ℕ → List ℕ
-putInto out at line = cond (leb (at + length line) (length out)) (sets out at line) out
+use Rattle.line.specs.declared.put.Fixed.the-variants.{Events, End, Stopped}
 
 unfoldable pub fixedLine : Fixed → List ℕ
-fixedLine Events = row word-events [] []
-fixedLine EndLine = row word-end [] []
-fixedLine Stopped = row word-stopped [] []
+fixedLine Events = row (ascii "events") [] []
+fixedLine End = row (ascii "end") [] []
+fixedLine Stopped = row (ascii "stopped") [] []

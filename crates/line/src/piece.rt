@@ -1,30 +1,25 @@
-// The pieces of a line: each is written from a place on, where there is room, and answers the place after it.
+// The pieces of a line: each is written from a place on, where there is room, and answers the place behind it.
 use calendar::Time;
+use digits::decimal::decimal_length;
+use digits::decimal::put_decimal;
+use digits::decimal::put_signed;
+use digits::decimal::signed_length;
+use digits::stamp::STAMP_LENGTH;
+use digits::stamp::put_stamp;
+use event::Integer;
 ghost use mathlib.Core.Path.{_≡_};
 ghost use Prim.Native.Nat.{_+_, _≤_, _<_};
 ghost use lib.ListN.{length};
-ghost use Rattle.line.specs.Line.{decimal, hexDigit, hex, tail, digitsOf, field, three, stamp};
-ghost use Rattle.line.specs.Piece.{Written, numeralOf, Counted};
+ghost use Rattle.digits.specs.Put.{Written};
+ghost use Rattle.line.specs.Line.{hexDigit, hex, tail};
+ghost use Rattle.line.specs.Piece.{numeralOf};
 
-// What follows a line's word: nothing, a number, or a day and time.
+// What follows a line's word: nothing, a number, one with its sign, or a day and time.
 pub enum Numeral {
     Nothing,
-    Plus(u64),
-    Minus(u64),
+    Number(u64),
+    Integer(Integer),
     Stamp(Time),
-}
-
-// Bytes as they are.
-pub(crate) fn write_bytes(out: &mut [u8], at: usize, s: &[u8]) -> usize
-    requires { ⌜ at + length (now s) ≤ length (now out) ⌝ }
-    ensures { λ r. ⌜ Written (now (out .entry)) at (now (s .entry)) (now (out .exit)) r ⌝ }
-{
-    let mut i: usize = 0;
-    while i < s.len() {
-        out[at + i] = s[i];
-        i += 1;
-    }
-    at + i
 }
 
 // Two hex digits for each byte.
@@ -63,88 +58,6 @@ pub(crate) fn write_tail(out: &mut [u8], at: usize, s: &[u8]) -> usize
     write_hex(out, at + 1, s)
 }
 
-// How many decimal digits a number takes.
-fn places_of(n: u64) -> usize
-    ensures { λ r. ⌜ Counted n r ⌝ }
-{
-    let mut places: usize = 1;
-    let mut left: u64 = n;
-    while 10 <= left {
-        left = left / 10;
-        places += 1;
-    }
-    places
-}
-
-// So many low decimal digits, from the last one backwards.
-fn write_digits(out: &mut [u8], at: usize, places: usize, n: u64) -> usize
-    requires { ⌜ at + places ≤ length (now out) ⌝ }
-    ensures { λ r. ⌜ Written (now (out .entry)) at (digitsOf places n) (now (out .exit)) r ⌝ }
-{
-    let mut k: usize = places;
-    let mut left: u64 = n;
-    while 0 < k {
-        k -= 1;
-        out[at + k] = (48 + left % 10) as u8;
-        left = left / 10;
-    }
-    at + places
-}
-
-fn write_decimal(out: &mut [u8], at: usize, n: u64) -> usize
-    requires { ⌜ at + length (decimal n) ≤ length (now out) ⌝ }
-    ensures { λ r. ⌜ Written (now (out .entry)) at (decimal n) (now (out .exit)) r ⌝ }
-{
-    write_digits(out, at, places_of(n), n)
-}
-
-// A field of a day and time, with the mark that stands behind it.
-fn write_field(out: &mut [u8], at: usize, places: usize, n: u32, mark: u8) -> usize
-    requires { ⌜ at + places < length (now out) ⌝ }
-    ensures { λ r. ⌜ Written (now (out .entry)) at (field places n mark) (now (out .exit)) r ⌝ }
-{
-    let mark_at = write_digits(out, at, places, n as u64);
-    out[mark_at] = mark;
-    mark_at + 1
-}
-
-// Three fields, a day or a time of day: the first may have more places, and another mark ends them.
-fn write_three(
-    out: &mut [u8],
-    at: usize,
-    places: usize,
-    first: u32,
-    second: u32,
-    third: u32,
-    mark: u8,
-    end: u8,
-) -> usize
-    requires { ⌜ at + places + 7 ≤ length (now out) ⌝ }
-    ensures { λ r. ⌜ Written (now (out .entry)) at (three places first second third mark end) (now (out .exit)) r ⌝ }
-{
-    let second_at = write_field(out, at, places, first, mark);
-    let third_at = write_field(out, second_at, 2, second, mark);
-    write_field(out, third_at, 2, third, end)
-}
-
-// `2001-01-01T00:00:00Z`.
-fn write_stamp(out: &mut [u8], at: usize, time: Time) -> usize
-    requires { ⌜ at + 20 ≤ length (now out) ⌝ }
-    ensures { λ r. ⌜ Written (now (out .entry)) at (stamp time) (now (out .exit)) r ⌝ }
-{
-    let clock_at = write_three(out, at, 4, time.year, time.month, time.day, b'-', b'T');
-    write_three(
-        out,
-        clock_at,
-        2,
-        time.hour,
-        time.minute,
-        time.second,
-        b':',
-        b'Z',
-    )
-}
-
 // A space and what follows the word, where there is something.
 pub(crate) fn write_numeral(out: &mut [u8], at: usize, number: Numeral) -> usize
     requires { ⌜ at + length (numeralOf number) ≤ length (now out) ⌝ }
@@ -152,18 +65,20 @@ pub(crate) fn write_numeral(out: &mut [u8], at: usize, number: Numeral) -> usize
 {
     match number {
         Numeral::Nothing => at,
-        Numeral::Plus(n) => {
+        Numeral::Number(n) => {
             out[at] = b' ';
-            write_decimal(out, at + 1, n)
+            put_decimal(out, at + 1, n);
+            at + 1 + decimal_length(n)
         }
-        Numeral::Minus(n) => {
+        Numeral::Integer(integer) => {
             out[at] = b' ';
-            out[at + 1] = b'-';
-            write_decimal(out, at + 2, n)
+            put_signed(out, at + 1, integer);
+            at + 1 + signed_length(integer)
         }
         Numeral::Stamp(time) => {
             out[at] = b' ';
-            write_stamp(out, at + 1, time)
+            put_stamp(out, at + 1, time);
+            at + 1 + STAMP_LENGTH
         }
     }
 }
@@ -171,12 +86,12 @@ pub(crate) fn write_numeral(out: &mut [u8], at: usize, number: Numeral) -> usize
 // How many bytes a numeral takes.
 pub(crate) fn numeral_length(number: Numeral) -> usize
     ensures { λ r. ⌜ r ≡ length (numeralOf number) ⌝ }
-    ensures { λ r. ⌜ r ≤ 22 ⌝ }
+    ensures { λ r. ⌜ r ≤ 21 ⌝ }
 {
     match number {
         Numeral::Nothing => 0,
-        Numeral::Plus(n) => 1 + places_of(n),
-        Numeral::Minus(n) => 2 + places_of(n),
-        Numeral::Stamp(_) => 21,
+        Numeral::Number(n) => 1 + decimal_length(n),
+        Numeral::Integer(integer) => 1 + signed_length(integer),
+        Numeral::Stamp(_) => 1 + STAMP_LENGTH,
     }
 }

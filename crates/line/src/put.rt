@@ -1,32 +1,28 @@
 // Putting a line from a place on: whole, where it fits, else nothing changes.
 use crate::piece::Numeral;
 use crate::piece::numeral_length;
-use crate::piece::write_bytes;
 use crate::piece::write_numeral;
 use crate::piece::write_tail;
 use calendar::Dated;
 use calendar::calendar_of;
+use digits::Put;
+use digits::fits;
 use event::Event;
-use event::Integer;
 use event::Length;
 use event::real::float_bits;
 use number::be::write_be;
-use number::signed::magnitude;
+use number::copy::write_bytes;
 ghost use mathlib.Core.Path.{_≡_};
 ghost use Prim.Native.Nat.{_+_, _≤_};
 ghost use mathlib.Core.List.{[]};
+ghost use lib.Dec.{leb};
 ghost use lib.ListN.{length};
 ghost use Rattle.number.specs.Be.{bytesOf};
-ghost use Rattle.event.specs.Meaning.{meaningOf, givenOf, valueOf};
-ghost use Rattle.line.specs.Line.{row, lengthGiven, signed, dateLine, lineOf, refusalLine};
-ghost use Rattle.line.specs.Piece.{Written, numeralOf, spaceOf, lineSize, Room};
-ghost use Rattle.line.specs.Put.{putEnd, putInto, fixedLine};
-
-// The place after a line, or that it doesn't fit.
-pub enum Put {
-    End(usize),
-    NoRoom,
-}
+ghost use Rattle.digits.specs.Put.{Written, putEnd, putInto};
+ghost use Rattle.event.specs.Meaning.{meaningOf, givenOf};
+ghost use Rattle.line.specs.Line.{row, lengthGiven, dateLine, lineOf, refusalLine};
+ghost use Rattle.line.specs.Piece.{numeralOf, spaceOf, lineSize};
+ghost use Rattle.line.specs.Put.{fixedLine};
 
 // The lines of one word about the listing itself.
 pub enum Fixed {
@@ -51,13 +47,13 @@ pub fn put_event(out: &mut [u8], at: usize, event: Event, bytes: &[u8]) -> Put
                 put_row(out, at, b"false", Numeral::Nothing, b"")
             }
         }
-        Event::Data => put_row(out, at, b"data", Numeral::Plus(bytes.len() as u64), bytes),
+        Event::Data => put_row(out, at, b"data", Numeral::Number(bytes.len() as u64), bytes),
         Event::Date(bits) => put_date(out, at, bits),
-        Event::Integer(integer) => put_row(out, at, b"int", value_of(integer), b""),
+        Event::Integer(integer) => put_row(out, at, b"int", Numeral::Integer(integer), b""),
         Event::Real(x) => put_bits(out, at, b"real", float_bits(x)),
         Event::Nan(bits) => put_bits(out, at, b"real", bits),
-        Event::String => put_row(out, at, b"str", Numeral::Plus(bytes.len() as u64), bytes),
-        Event::Uid(n) => put_row(out, at, b"uid", Numeral::Plus(n), b""),
+        Event::String => put_row(out, at, b"str", Numeral::Number(bytes.len() as u64), bytes),
+        Event::Uid(n) => put_row(out, at, b"uid", Numeral::Number(n), b""),
     }
 }
 
@@ -66,11 +62,11 @@ pub fn put_refusal(out: &mut [u8], at: usize, number: u64, place: u64) -> Put
     ensures { λ r. ⌜ r ≡ putEnd (now (out .entry)) at (refusalLine number place) ⌝ }
     ensures { λ _. ⌜ now (out .exit) ≡ putInto (now (out .entry)) at (refusalLine number place) ⌝ }
 {
-    let numbers = numeral_length(Numeral::Plus(number)) + numeral_length(Numeral::Plus(place));
+    let numbers = numeral_length(Numeral::Number(number)) + numeral_length(Numeral::Number(place));
     if has_room(out.len(), at, 10, numbers, 0) {
-        let number_at = write_bytes(out, at, b"refused");
-        let at_at = write_numeral(out, number_at, Numeral::Plus(number));
-        return Put::End(write_row(out, at_at, b" at", Numeral::Plus(place), b""));
+        write_bytes(out, at, b"refused");
+        let at_at = write_numeral(out, at + 7, Numeral::Number(number));
+        return Put::End(write_row(out, at_at, b" at", Numeral::Number(place), b""));
     }
     Put::NoRoom
 }
@@ -123,16 +119,17 @@ fn write_row(out: &mut [u8], at: usize, word: &[u8], number: Numeral, bytes: &[u
     requires { ⌜ at + length (row (now word) (numeralOf number) (now bytes)) ≤ length (now out) ⌝ }
     ensures { λ r. ⌜ Written (now (out .entry)) at (row (now (word .entry)) (numeralOf number) (now (bytes .entry))) (now (out .exit)) r ⌝ }
 {
-    let number_at = write_bytes(out, at, word);
-    let bytes_at = write_numeral(out, number_at, number);
+    write_bytes(out, at, word);
+    let bytes_at = write_numeral(out, at + word.len(), number);
     let newline_at = write_tail(out, bytes_at, bytes);
-    write_bytes(out, newline_at, b"\n")
+    out[newline_at] = b'\n';
+    newline_at + 1
 }
 
 // Whether a line fits from a place on: its word, its numbers, its bytes, its newline. No sum here can pass the top.
 fn has_room(room: usize, at: usize, word: usize, numbers: usize, bytes: usize) -> bool
-    requires { ⌜ numbers ≤ 44 ⌝ }
-    ensures { λ r. ⌜ Room room at (lineSize word numbers bytes) r ⌝ }
+    requires { ⌜ numbers ≤ 42 ⌝ }
+    ensures { λ r. ⌜ r ≡ leb (at + lineSize word numbers bytes) room ⌝ }
 {
     if room / 2 < bytes {
         return false;
@@ -141,15 +138,7 @@ fn has_room(room: usize, at: usize, word: usize, numbers: usize, bytes: usize) -
     if left < word {
         return false;
     }
-    let rest = left - word;
-    let small = numbers + space_of(bytes) + 1;
-    if rest < small {
-        return false;
-    }
-    if rest - small < at {
-        return false;
-    }
-    true
+    fits(left - word, at, numbers + space_of(bytes) + 1)
 }
 
 // The space before the bytes, where there are any.
@@ -164,22 +153,7 @@ fn given(length: Length) -> Numeral
     ensures { λ r. ⌜ numeralOf r ≡ lengthGiven (givenOf length) ⌝ }
 {
     match length {
-        Length::Given(n) => Numeral::Plus(n),
+        Length::Given(n) => Numeral::Number(n),
         Length::NotGiven => Numeral::Nothing,
-    }
-}
-
-fn value_of(integer: Integer) -> Numeral
-    ensures { λ r. ⌜ numeralOf r ≡ signed (valueOf integer) ⌝ }
-{
-    match integer {
-        Integer::Signed(z) => {
-            if z < 0 {
-                Numeral::Minus(magnitude(z) + 1)
-            } else {
-                Numeral::Plus(magnitude(z))
-            }
-        }
-        Integer::Unsigned(n) => Numeral::Plus(n),
     }
 }

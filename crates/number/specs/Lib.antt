@@ -3,6 +3,7 @@ pub mod Be
 pub mod BeLaws
 pub mod Between
 pub mod Cases
+pub mod Computed
 pub mod Either
 pub mod Part
 pub mod PartLaws

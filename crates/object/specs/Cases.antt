@@ -1,4 +1,5 @@
--- Document 01's worked cases that are about one object, computed. The trailer is all zeros, but where its first byte is the length byte of an object right before it.
+-- The cases of docs/FORMAT.md, P, that are about one object, computed. The trailer is all zeros, but where its first byte is the length byte of an
+-- object right before it.
 use mathlib.Core.Bool.{false}
 use mathlib.Core.List.{List, [], _∷_, _++_, map}
 use mathlib.Core.Path.{_≡_, refl}
@@ -7,21 +8,17 @@ use native.Mathlib.Omega.{arith}
 use borrow.Author.Tests.{le-leb}
 use lib.IntN.{negsuc}
 use lib.ListN.{replicate}
-use Rattle.unicode.specs.Unicode.{isUtf16, isEven, paired, unitsOf, isHigh, isLow}
-use Rattle.number.specs.Be.{be, onto, bytesOf}
-use Rattle.number.specs.Signed.{signedOf}
-use Rattle.number.specs.Width.{bytesIn}
+use Rattle.number.specs.Be.{bytesOf}
 use Rattle.number.specs.declared.width.Width.the-variants.{One}
 use Rattle.number.specs.declared.width.Width.{Width}
-use Rattle.event.specs.Date.{isDate}
 use Rattle.event.specs.DateLaws.{largest, beyond}
+use Rattle.event.specs.Format.{magic}
 use Rattle.event.specs.declared.Event.the-variants.{Boolean, Date, Integer}
 use Rattle.event.specs.declared.Integer.the-variants.{Signed, Unsigned}
-use Rattle.object.specs.Content.{trailerAt, lengthWidth, extentAt, isLengthByte, hasLength, headAt, endsBefore, measured, contentAt}
-use Rattle.object.specs.Kind.{kindOf}
-use Rattle.object.specs.Object.{Found, refused, refusedBy, scalar, bytes, utf16, fixedAt, wideIn, dateOf, dataIn, utf16In, dictionaryIn, byKind, objectAt}
+use Rattle.object.specs.Computed.{computed}
+use Rattle.object.specs.Content.{trailerAt}
+use Rattle.object.specs.Object.{Found, refused, scalar, bytes, utf16, objectAt}
 use Rattle.object.specs.ObjectLaws.{object-inside}
-use Rattle.object.specs.Refusal.{numberOf, valuesOf}
 
 -- what stands at an offset of a file that has these bytes before its trailer, so that T is their number; references of 1 byte
 abbrev found : List ℕ → ℕ → Found
@@ -29,40 +26,37 @@ found s offset = objectAt (s ++ replicate 32 0) One offset
 
 -- P2: `10 FF` is 255
 pub p2 : found (0x10 ∷ 0xFF ∷ []) 0 ≡ scalar (Integer (Unsigned 255))
-unfolding objectAt byKind kindOf be onto fixedAt endsBefore
+unfolding computed
 p2 = refl
 
 -- P3: `13 80` and seven `00` is -9,223,372,036,854,775,808; `negsuc k` is -1 - k
 pub p3 : found (0x13 ∷ 0x80 ∷ replicate 7 0) 0 ≡ scalar (Integer (Signed (negsuc 9_223_372_036_854_775_807)))
-unfolding objectAt byKind kindOf be onto fixedAt endsBefore signedOf
+unfolding computed
 p3 = refl
 
 -- P4: `14`, eight `00`, eight `FF` is 18,446,744,073,709,551,615
 pub p4 : found (0x14 ∷ replicate 8 0 ++ replicate 8 0xFF) 0 ≡ scalar (Integer (Unsigned 18_446_744_073_709_551_615))
-unfolding objectAt byKind kindOf be onto fixedAt endsBefore wideIn refusedBy numberOf valuesOf
+unfolding computed
 p4 = refl
 
 -- P5: sixteen `FF` gives 11
 pub p5 : found (0x14 ∷ replicate 16 0xFF) 0 ≡ refused 11 []
-unfolding objectAt byKind kindOf be onto fixedAt endsBefore wideIn refusedBy numberOf valuesOf
+unfolding computed
 p5 = refl
 
 -- P6: `4F 10 02 AB CD` is data; `4F 50 02 AB CD` and `4F 14 02 AB CD` give 31
 pub p6 : (found (0x4F ∷ 0x10 ∷ 0x02 ∷ 0xAB ∷ 0xCD ∷ []) 0 ≡ bytes 3 2) × (found (0x4F ∷ 0x50 ∷ 0x02 ∷ 0xAB ∷ 0xCD ∷ []) 0 ≡ refused 31 []) × (found (0x4F ∷ 0x14 ∷ 0x02 ∷ 0xAB ∷ 0xCD ∷ []) 0 ≡ refused 31 [])
-unfolding objectAt byKind kindOf be onto dataIn refusedBy numberOf valuesOf contentAt measured headAt hasLength isLengthByte endsBefore extentAt lengthWidth
+unfolding computed
 p6 = (refl, refl, refl)
 
 -- P7: `61 D8 00` gives 13
 pub p7 : found (0x61 ∷ 0xD8 ∷ 0x00 ∷ []) 0 ≡ refused 13 []
-unfolding objectAt byKind kindOf utf16In refusedBy numberOf valuesOf contentAt measured headAt hasLength isLengthByte endsBefore extentAt isUtf16 isEven paired unitsOf isHigh
+unfolding computed
 p7 = refl
-
-abbrev magic : List ℕ
-magic = 0x62 ∷ 0x70 ∷ 0x6C ∷ 0x69 ∷ 0x73 ∷ 0x74 ∷ 0x30 ∷ 0x30 ∷ []
 
 -- P8: offset 0 (T at least 5) reads `62`: text of two units, whatever follows the magic
 pub p8 : (rest : List ℕ) (refs : Width) → 5 ≤ trailerAt (magic ++ rest) → objectAt (magic ++ rest) refs 0 ≡ utf16 1 4
-unfolding byKind kindOf utf16In refusedBy numberOf valuesOf contentAt measured headAt hasLength isLengthByte endsBefore extentAt isUtf16 isEven paired unitsOf isHigh isLow
+unfolding computed
 p8 rest refs h = rw (object-inside (magic ++ rest) refs 0 (omega arith), le-leb 5 (trailerAt (magic ++ rest)) h)
 
 -- T = 10: `41` at 9 would end at 11, in the trailer, and so would `10`; `08` there is false. `4F` there has its length byte in the trailer:
@@ -73,7 +67,7 @@ pub crossing :
     (found (magic ++ 0x09 ∷ 0x08 ∷ []) 9 ≡ scalar (Boolean false)) ×
     (found (magic ++ 0x09 ∷ 0x4F ∷ []) 9 ≡ refused 31 []) ×
     (objectAt (magic ++ 0x09 ∷ 0x4F ∷ 0x10 ∷ replicate 31 0) One 9 ≡ refused 6 [])
-unfolding objectAt byKind kindOf fixedAt endsBefore dataIn refusedBy numberOf valuesOf contentAt measured headAt hasLength isLengthByte extentAt lengthWidth be onto
+unfolding computed
 crossing = (refl, refl, refl, refl, refl)
 
 -- `33` and the bits at the limits: the neighbours of infinity are dates; infinities and NaNs give 34, where the object ends at or before T
@@ -81,10 +75,10 @@ pub dates :
     (map (λ (bits : ℕ). found (0x33 ∷ bytesOf 8 bits) 0) largest ≡ map (λ (bits : ℕ). scalar (Date bits)) largest) ×
     (map (λ (bits : ℕ). found (0x33 ∷ bytesOf 8 bits) 0) beyond ≡ replicate 5 (refused 34 [])) ×
     (found (0x33 ∷ 0x7F ∷ 0xF0 ∷ replicate 5 0) 0 ≡ refused 6 [])
-unfolding objectAt byKind kindOf be onto bytesOf fixedAt endsBefore dateOf isDate refusedBy numberOf valuesOf
+unfolding computed
 dates = (refl, refl, refl)
 
 -- object at 9, references of 1 byte, `DF 10 1D`, T = 38, and `DF 10 1E`, T = 39: the values run past T
 pub pairs : (found (magic ++ 0x00 ∷ 0xDF ∷ 0x10 ∷ 0x1D ∷ replicate 26 0) 9 ≡ refused 6 []) × (found (magic ++ 0x00 ∷ 0xDF ∷ 0x10 ∷ 0x1E ∷ replicate 27 0) 9 ≡ refused 6 [])
-unfolding objectAt byKind kindOf be onto dictionaryIn refusedBy numberOf valuesOf contentAt measured headAt hasLength isLengthByte endsBefore extentAt lengthWidth bytesIn
+unfolding computed
 pairs = (refl, refl)

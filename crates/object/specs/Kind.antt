@@ -1,4 +1,4 @@
--- The kinds of objects, by the marker byte. Apple's table of objects; document 01, "One decision over the marker byte".
+-- The kinds of objects, by the marker byte. Apple's table of objects; docs/FORMAT.md, R9.
 use mathlib.Core.Bool.{Bool, cond, _&&_}
 use Prim.Native.Nat.{ℕ, _-_}
 use lib.Dec.{leb, eqb}

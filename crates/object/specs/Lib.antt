@@ -1,4 +1,5 @@
 pub mod Cases
+pub mod Computed
 pub mod Container
 pub mod ContainerLaws
 pub mod Content

@@ -7,20 +7,22 @@ use mathlib.Core.Path.{_≡_, sym, ap, _∙_}
 use native.Mathlib.Omega.{arith}
 use borrow.Author.Tests.{eq-eqb, ne-eqb, le-leb, lt-leb}
 use lib.ListN.{length, set}
+use Rattle.number.specs.Among.{among}
 use Rattle.event.specs.declared.Event.{Event}
 use Rattle.event.specs.declared.Event.the-variants.{EndCollection}
 use Rattle.layout.proofs.Counts.{counted, numbered, measured}
 use Rattle.layout.specs.Frame.{newFrame, noFrame, nextIn}
 use Rattle.layout.specs.Layout.{dueOf, lookOf, sourceOf}
 use Rattle.layout.specs.LookLaws.{look-right, placed-scalar, placed-container}
+use Rattle.layout.specs.Refusals.{fileRefusals}
 use Rattle.layout.specs.Looked.{Looked, withPlace, faulty, scalar, container, Shape, startOf}
 use Rattle.layout.specs.declared.frame.Frame.{Frame}
 use Rattle.layout.specs.declared.layout.Due.{Due}
 use Rattle.layout.specs.declared.layout.Due.the-variants.{Wrong, Close, Member}
 use Rattle.layout.specs.declared.layout.Layout.{Layout}
-use Rattle.reader.specs.Machine.{Step, eventAt, step, refuse, wrongFile, refusedIn, enter, arrive, follow}
+use Rattle.reader.specs.Machine.{Step, eventAt, step, refuse, wrongFile, enter, arrive, follow}
 use Rattle.reader.specs.Next.{nextOf}
-use Rattle.reader.specs.NextLaws.{arrive-refused}
+use Rattle.reader.specs.NextLaws.{arrive-refused, arrive-missing}
 use Rattle.reader.specs.State.{maxOpen, maxLength, endedReader, moved, openOf, innermost, memberOf, advanced, passed, entered, closed}
 use Rattle.reader.specs.declared.state.Reader.{Reader}
 
@@ -87,9 +89,11 @@ module _ (y : Named) where
   unfolding follow sourceOf
   call-arrive = y .going .on ∙ ap (follow (sourceOf (y .going .file) (y .going .layout)) r) (y .is)
 
-  pub is-refused : (number : ℕ) (values : List ℕ) (place : ℕ) → looked ≡ faulty number values place → refusedIn r number values place ≡ call (y .going)
-  is-refused number values place e =
-      sym (call-arrive ∙ arrive-refused (y .going .file) (y .going .layout) r (y .object) number values place found (look-right (y .going .file) (y .going .layout) (y .object)) e)
+  pub is-missing : looked ≡ faulty 17 [] 0 → wrongFile r ≡ call (y .going)
+  is-missing e = sym (call-arrive ∙ arrive-missing (y .going .file) (y .going .layout) r (y .object) found (look-right (y .going .file) (y .going .layout) (y .object)) e)
+
+  pub is-refused : (number : ℕ) (values : List ℕ) (place : ℕ) → among fileRefusals number ≡ true → looked ≡ faulty number values place → refuse number values place ≡ call (y .going)
+  is-refused number values place n e = sym (call-arrive ∙ arrive-refused (y .going .file) (y .going .layout) r (y .object) number values place n found e)
 
   pub passes : (e : Event) (offset : ℕ) → looked ≡ scalar e offset → step (moved r offset (r .depth) frames) (eventAt e offset) ≡ call (y .going)
   unfolding arrive passed advanced

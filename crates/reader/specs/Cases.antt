@@ -5,27 +5,11 @@ use mathlib.Core.Path.{_≡_, refl}
 use Prim.Native.Nat.{ℕ, zero, suc, _+_, _*_}
 use lib.IntN.{pos, negsuc}
 use lib.ListN.{length, replicate, drop}
-use Rattle.number.specs.Be.{be, onto}
-use Rattle.number.specs.Signed.{signedOf}
-use Rattle.number.specs.Width.{widthOf, bytesIn}
-use Rattle.unicode.specs.Unicode.{isUtf16, isEven, paired, unitsOf, isHigh, isLow, toUtf8, utf8, utf8Of, scalars16}
-use Rattle.event.specs.Date.{isDate}
 use Rattle.event.specs.Format.{magic}
-use Rattle.event.specs.Meaning.{array, close, date, integer, bytes, text, meaningOf, valueOf, givenOf}
-use Rattle.object.specs.Refusal.{numberOf as objectNumber, valuesOf as objectValues}
-use Rattle.object.specs.Container.{containerAt, containerOf, arrayOf, dictionaryOf}
-use Rattle.object.specs.Content.{contentAt, extentAt, endsBefore, lengthWidth, measured, hasLength, isLengthByte, headAt}
-use Rattle.object.specs.Kind.{kindOf}
-use Rattle.object.specs.Object.{objectAt, byKind, wideIn, dateOf, dataIn, utf16In, arrayIn, fixedAt, refusedBy}
-use Rattle.layout.specs.Layout.{numberAt, entryAt, given, dueAt, inArray, dueIn, standsFrom, standsAt, dueOf, lookIn, lookFrom, lookOf, sourceOf}
-use Rattle.layout.specs.Looked.{startOf}
-use Rattle.layout.specs.Bytes.{dataAsked, textAsked, eventAsked}
-use Rattle.layout.specs.Frame.{nextIn}
-use Rattle.layout.specs.Trailer.{begins, eightAt, tableOf, refSizeOf, sizesOf, trailerOf}
-use Rattle.reader.specs.Machine.{enter, arrive, follow, stepOf}
-use Rattle.reader.specs.Meanings.{Told, means, ended, refused, answers, told, meaningAt, bytesAsked}
-use Rattle.reader.specs.Next.{laidOut, begin, withRefs, goOn, nextOf}
-use Rattle.reader.specs.State.{freshReader, openOf, innermost, memberOf, advanced, passed, entered, closed}
+use Rattle.event.specs.Meaning.{array, close, date, integer, bytes, text}
+use Rattle.reader.specs.Computed.{computed}
+use Rattle.reader.specs.Meanings.{Told, means, ended, refused, answers}
+use Rattle.reader.specs.State.{freshReader}
 
 -- a number below 256 in 8 bytes, and a trailer with sizes of 1 byte: count, root 0, table offset
 abbrev eight : ℕ → List ℕ
@@ -63,7 +47,7 @@ cases =
     []
 
 pub cases-right : map (λ (c : Case). answers 3 (c .file) freshReader) cases ≡ map (λ (c : Case). c .answer) cases
-unfolding be onto signedOf widthOf bytesIn isUtf16 isEven paired unitsOf isHigh isLow toUtf8 utf8 utf8Of scalars16 meaningOf valueOf givenOf containerAt containerOf arrayOf dictionaryOf contentAt measured headAt hasLength isLengthByte extentAt endsBefore lengthWidth kindOf objectAt byKind fixedAt refusedBy objectNumber objectValues wideIn dateOf isDate dataIn utf16In arrayIn numberAt entryAt given dueAt inArray dueIn standsFrom standsAt dueOf lookIn lookFrom lookOf sourceOf startOf enter arrive follow stepOf answers told meaningAt bytesAsked laidOut begin withRefs goOn nextOf dataAsked textAsked eventAsked openOf innermost memberOf advanced passed entered nextIn magic begins eightAt tableOf refSizeOf sizesOf trailerOf
+unfolding computed
 cases-right = refl
 
 -- n arrays, each inside the last, from 8 on, and the table of their offsets
@@ -80,9 +64,9 @@ nested n = magic ++ inside n 1 ++ offsets n 8 ++ trailer (n + 1) (9 + 2 * n)
 
 -- the case "depth": 64 arrays, each in the one before, are read; with 65, 15 comes at the offset of the 65th
 pub deep-64 : drop 63 (answers 65 (nested 63) freshReader) ≡ means (array (some 0)) 134 ∷ means close 134 ∷ []
-unfolding be onto widthOf bytesIn meaningOf valueOf givenOf containerAt containerOf arrayOf dictionaryOf contentAt measured headAt hasLength isLengthByte extentAt endsBefore lengthWidth kindOf objectAt byKind fixedAt refusedBy objectNumber objectValues arrayIn numberAt entryAt given dueAt inArray dueIn standsFrom standsAt dueOf lookIn lookFrom lookOf sourceOf startOf enter arrive follow stepOf answers told meaningAt bytesAsked laidOut begin withRefs goOn nextOf eventAsked openOf innermost memberOf advanced passed entered nextIn magic begins eightAt tableOf refSizeOf sizesOf trailerOf closed
+unfolding computed
 deep-64 = refl
 
 pub deep-65 : drop 63 (answers 66 (nested 64) freshReader) ≡ means (array (some 1)) 134 ∷ refused 15 [] 136 ∷ ended ∷ []
-unfolding be onto widthOf bytesIn meaningOf valueOf givenOf containerAt containerOf arrayOf dictionaryOf contentAt measured headAt hasLength isLengthByte extentAt endsBefore lengthWidth kindOf objectAt byKind fixedAt refusedBy objectNumber objectValues arrayIn numberAt entryAt given dueAt inArray dueIn standsFrom standsAt dueOf lookIn lookFrom lookOf sourceOf startOf enter arrive follow stepOf answers told meaningAt bytesAsked laidOut begin withRefs goOn nextOf eventAsked openOf innermost memberOf advanced passed entered nextIn magic begins eightAt tableOf refSizeOf sizesOf trailerOf closed
+unfolding computed
 deep-65 = refl

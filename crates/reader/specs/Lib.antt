@@ -1,10 +1,14 @@
+pub mod Calls
+pub mod CallsLaws
 pub mod Cases
+pub mod Computed
 pub mod Machine
 pub mod Meanings
 pub mod Next
 pub mod NextLaws
 pub mod Refusals
 pub mod Request
+pub mod RequestLaws
 pub mod Said
 pub mod SaidLaws
 pub mod State

@@ -2,7 +2,7 @@
 use mathlib.Core.Bool.{cond}
 use mathlib.Core.List.{List, []}
 use Prim.Native.Nat.{ℕ}
-use lib.Dec.{leb, eqb}
+use lib.Dec.{leb}
 use Rattle.event.specs.declared.Event.{Event}
 use Rattle.event.specs.declared.Event.the-variants.{EndCollection}
 use Rattle.layout.specs.Looked.{Shape, Looked, barred, missing, faulty, scalar, container, Source, startOf}
@@ -39,10 +39,6 @@ refuse number values place = step endedReader (refused number values place)
 
 abbrev pub wrongFile : Reader → Step
 wrongFile r = step r (refused 17 [] 0)
-
--- a refusal by its number
-unfoldable pub refusedIn : Reader → ℕ → List ℕ → ℕ → Step
-refusedIn r number values place = cond (eqb number 17) (step r (refused number values place)) (refuse number values place)
 
 -- a container is opened, or refused with 14 or 15 (R16)
 unfoldable pub enter : Reader → ℕ → Shape → ℕ → ℕ → Step

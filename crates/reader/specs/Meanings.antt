@@ -1,14 +1,14 @@
 -- What the calls on a file mean, in order.
-use mathlib.Core.List.{List, [], _∷_}
-use Prim.Native.Nat.{ℕ, zero, suc}
+use mathlib.Core.List.{List, [], map}
+use Prim.Native.Nat.{ℕ}
 use Rattle.unicode.specs.Unicode.{toUtf8}
 use Rattle.event.specs.Meaning.{Meaning, meaningOf}
 use Rattle.event.specs.declared.Event.{Event}
 use Rattle.number.specs.Part.{part}
 use Rattle.layout.specs.Bytes.{Asked, inFile, inUtf16, noBytes, denied, eventAsked}
+use Rattle.reader.specs.Calls.{calls, answersOf}
 use Rattle.reader.specs.Machine as Machine
 use Rattle.reader.specs.Machine.{Said}
-use Rattle.reader.specs.Next.{nextOf}
 use Rattle.reader.specs.declared.state.Reader.{Reader}
 
 -- the bytes of data or text that stand in a file
@@ -33,7 +33,7 @@ told file (Machine.event r) = means (meaningAt file (r .event) (r .offset)) (r .
 told file Machine.ended = ended
 told file (Machine.refused number values place) = refused number values place
 
--- the first n answers of a reader on a file
+-- the first n answers of a reader on a file, with what they mean
 unfoldable pub answers : ℕ → List ℕ → Reader → List Told
-answers zero file r = []
-answers (suc n) file r = told file (nextOf file r .answer) ∷ answers n file (nextOf file r .state)
+unfolding calls
+answers n file r = map (told file) (answersOf (calls n file r))

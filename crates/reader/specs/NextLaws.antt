@@ -1,21 +1,22 @@
 -- What a call answers, case by case: the order of R21 (docs/FORMAT.md).
 use mathlib.Core.Bool.{Bool, true, false, cond, not, _&&_}
 use mathlib.Core.List.{List, []}
-use mathlib.Core.Path.{_≡_, refl, sym, ap, _∙_}
+use mathlib.Core.Path.{_≡_, refl, ap, _∙_}
 use Prim.Native.Nat.{ℕ, _≤_, _<_}
 use native.Mathlib.Omega.{arith}
 use borrow.Author.Tests.{lt-ltb, le-ltb, eq-eqb, ne-eqb}
 use lib.Dec.{ltb, eqb}
 use lib.ListN.{length}
+use Rattle.number.specs.Among.{among, among-not}
 use Rattle.number.specs.Width.{widthOf}
 use Rattle.number.specs.declared.width.Size.the-variants.{Allowed}
 use Rattle.layout.specs.Layout.{dueOf, sourceOf}
 use Rattle.layout.specs.LookLaws.{Looked-right}
 use Rattle.layout.specs.Looked.{Looked, barred, missing, faulty, scalar, container, withPlace}
-use Rattle.layout.specs.Refusals.{Faults, file-refusal, file-not}
+use Rattle.layout.specs.Refusals.{Faults, fileRefusals, file-refusal, not-file-17}
 use Rattle.layout.specs.Trailer.{keeps, trailerOf, trailerIn}
 use Rattle.layout.specs.declared.layout.Layout.{Layout}
-use Rattle.reader.specs.Machine.{Step, ended, refused, step, refuse, wrongFile, refusedIn, arrive, follow, stepOf}
+use Rattle.reader.specs.Machine.{Step, ended, step, refuse, wrongFile, arrive, follow, stepOf}
 use Rattle.reader.specs.Next.{tooLong, begin, withRefs, goOn, nextOf}
 use Rattle.reader.specs.State.{maxOpen, maxLength, innermost}
 use Rattle.reader.specs.declared.state.Reader.{Reader}
@@ -27,36 +28,34 @@ yes x y e = rw e
 no : {A : Type 0} {b : Bool} (x y : A) → b ≡ false → cond b x y ≡ y
 no x y e = rw e
 
--- whatever the number, the answer is that refusal
-pub refusedIn-answer : (r : Reader) (number : ℕ) (values : List ℕ) (place : ℕ) → refusedIn r number values place .answer ≡ refused number values place
-unfolding refusedIn
-refusedIn-answer r number values place = go (eqb number 17)
-  where
-    go : (b : Bool) → cond b (step r (refused number values place)) (refuse number values place) .answer ≡ refused number values place
-    go true = refl
-    go false = refl
+-- what is looked up and refused ends the reader, with that place; what isn't in the file is 17
+module _ (file : List ℕ) (l : Layout) (r : Reader) (object : ℕ) where
+  module _ (number : ℕ) (values : List ℕ) (place : ℕ) (listed : among fileRefusals number ≡ true) where
+    same : (m : ℕ) (v : List ℕ) (o : ℕ) → faulty m v o ≡ faulty number values place → refuse m v o ≡ refuse number values place
+    same m v o e =
+        let p : m ≡ number = cc in
+        let q : v ≡ values = cc in
+        let s : o ≡ place = cc in
+        rw (p, q, s)
 
--- the numbers that an object is refused with end
-refusedIn-ends : (r : Reader) (number : ℕ) (values : List ℕ) (place : ℕ) → Faults number → refuse number values place ≡ refusedIn r number values place
-unfolding refusedIn
-refusedIn-ends r number values place h = sym (no _ _ (ne-eqb number 17 (file-not number 17 (file-refusal number h) (omega arith) (omega arith))))
+    pub arrive-refused : (x : Looked) → withPlace (r .place) x ≡ faulty number values place → arrive r object x ≡ refuse number values place
+    unfolding withPlace arrive
+    arrive-refused (barred m v) e = same m v (r .place) e
+    arrive-refused missing e = let z : number ≡ 17 = cc in absurd (among-not fileRefusals number 17 listed not-file-17 z)
+    arrive-refused (faulty m v o) e = same m v o e
+    arrive-refused (scalar f o) e = let z : _≡_ {A = ℕ} 0 1 = cc in absurd (omega arith)
+    arrive-refused (container s k o) e = let z : _≡_ {A = ℕ} 0 1 = cc in absurd (omega arith)
 
--- what is refused where it is looked up is refused with that place
-module _ (file : List ℕ) (l : Layout) (r : Reader) (object number : ℕ) (values : List ℕ) (place : ℕ) where
-  same : (m : ℕ) (v : List ℕ) (o : ℕ) → faulty m v o ≡ faulty number values place → {x : Step} → x ≡ refusedIn r m v o → x ≡ refusedIn r number values place
-  same m v o e h =
-      let p : m ≡ number = cc in
-      let q : v ≡ values = cc in
-      let s : o ≡ place = cc in
-      rw (← p, ← q, ← s) h
+  never-17 : {P : Type 0} (m : ℕ) (v : List ℕ) (o : ℕ) → Faults m → faulty m v o ≡ faulty 17 [] 0 → P
+  never-17 m v o h e = let z : m ≡ 17 = cc in absurd (among-not fileRefusals m 17 (file-refusal m h) not-file-17 z)
 
-  pub arrive-refused : (x : Looked) → Looked-right file l object x → withPlace (r .place) x ≡ faulty number values place → arrive r object x ≡ refusedIn r number values place
-  unfolding withPlace arrive refusedIn
-  arrive-refused (barred m v) h e = same m v (r .place) e (refusedIn-ends r m v (r .place) h)
-  arrive-refused missing h e = same 17 [] 0 e refl
-  arrive-refused (faulty m v o) h e = same m v o e (refusedIn-ends r m v o h)
-  arrive-refused (scalar f o) h e = let z : _≡_ {A = ℕ} 0 1 = cc in absurd (omega arith)
-  arrive-refused (container s k o) h e = let z : _≡_ {A = ℕ} 0 1 = cc in absurd (omega arith)
+  pub arrive-missing : (x : Looked) → Looked-right file l object x → withPlace (r .place) x ≡ faulty 17 [] 0 → arrive r object x ≡ wrongFile r
+  unfolding withPlace arrive
+  arrive-missing (barred m v) h e = never-17 m v (r .place) h e
+  arrive-missing missing h e = refl
+  arrive-missing (faulty m v o) h e = never-17 m v o h e
+  arrive-missing (scalar f o) h e = let z : _≡_ {A = ℕ} 0 1 = cc in absurd (omega arith)
+  arrive-missing (container s k o) h e = let z : _≡_ {A = ℕ} 0 1 = cc in absurd (omega arith)
 
 module _ (file : List ℕ) (r : Reader) where
   -- nothing is open: ended, whatever is lent

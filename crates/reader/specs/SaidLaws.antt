@@ -1,16 +1,50 @@
 -- Two answers that say the same are the same.
+use mathlib.Core.Bool.{true, cond}
+use mathlib.Core.List.{List}
 use mathlib.Core.Path.{_≡_, refl, sym, ap, _∙_}
-use Rattle.layout.specs.SaidLaws.{refusalFrom, again}
-use Rattle.layout.specs.declared.refusal.Refusal.{Refusal}
+use Prim.Native.Nat.{ℕ}
+use lib.Dec.{eqb}
+use Rattle.number.specs.Among.{among}
+use Rattle.object.specs.Refusal.{objectRefusals}
+use Rattle.layout.specs.Refusals.{lookRefusals, fileRefusals}
+use Rattle.layout.specs.SaidLaws.{refusalFrom as fileFrom, again as file-again, number-listed as file-listed}
 use Rattle.reader.specs.Machine.{Said, event, ended, refused, Step}
+use Rattle.reader.specs.Refusals.{stepRefusals, readRefusals, read-refusal}
 use Rattle.reader.specs.Request.{TextSaid, long, refusing}
-use Rattle.reader.specs.Said.{said, stepSaid, textSaid}
+use Rattle.reader.specs.Said.{numberOf, valuesOf, said, stepSaid, textSaid}
 use Rattle.reader.specs.declared.answer.Answer.{Answer}
 use Rattle.reader.specs.declared.answer.Answer.the-variants.{Handed, Ended, Refused}
 use Rattle.reader.specs.declared.answer.Stepped.{Stepped}
+use Rattle.reader.specs.declared.refusal.Refusal.{Refusal}
+use Rattle.reader.specs.declared.refusal.Refusal.the-variants.{File, RecursiveObject, TooDeep, NoRoomForText, WrongFile}
 use Rattle.reader.specs.declared.request.TextLength.{TextLength}
 use Rattle.reader.specs.declared.request.TextLength.the-variants.{Length}
 use Rattle.reader.specs.declared.request.TextLength.the-variants as text
+
+-- the refusal of a number and values
+pub refusalFrom : ℕ → List ℕ → Refusal
+refusalFrom number values =
+    cond (among fileRefusals number) (File (fileFrom number values))
+    (cond (eqb number 14) RecursiveObject
+    (cond (eqb number 15) TooDeep
+    (cond (eqb number 16) NoRoomForText WrongFile)))
+
+pub again : (r : Refusal) → refusalFrom (numberOf r) (valuesOf r) ≡ r
+unfolding numberOf valuesOf refusalFrom among fileRefusals lookRefusals objectRefusals
+again (File r) = rw (file-listed r) (ap File (file-again r))
+again RecursiveObject = refl
+again TooDeep = refl
+again NoRoomForText = refl
+again WrongFile = refl
+
+-- a refusal's number is of a reader's
+pub number-listed : (r : Refusal) → among readRefusals (numberOf r) ≡ true
+unfolding among readRefusals stepRefusals numberOf
+number-listed (File r) = read-refusal _ (file-listed r)
+number-listed RecursiveObject = refl
+number-listed TooDeep = refl
+number-listed NoRoomForText = refl
+number-listed WrongFile = refl
 
 -- the answer that says this
 answerFrom : Said → Answer

@@ -1,7 +1,7 @@
 // What a call of the reader answers.
+use crate::refusal::Refusal;
 use crate::state::Reader;
 use event::Event;
-use layout::refusal::Refusal;
 
 // An event, and the offset of the object that it comes from; for an end that of the container it closes.
 pub struct Record {

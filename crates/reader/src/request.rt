@@ -1,16 +1,16 @@
 // The text request: the bytes of a record, from the file or from lent scratch. Data and text have some; of other records it is only asked
 // whether the file gives them.
 use crate::answer::Record;
+use crate::refusal::Refusal;
 use crate::state::Reader;
 use event::Event;
 use event::Length;
 use event::same::is_same;
-use layout::lookup::Asked;
-use layout::refusal::Refusal;
 use number::width::Width;
 use object::container::Container;
 use object::container::container_at;
 use object::read::Object;
+use object::read::Part;
 use object::read::object_at;
 use unicode::changed::Changed;
 use unicode::utf16::Utf8Length;
@@ -18,9 +18,8 @@ use unicode::utf16::utf8_length;
 use unicode::utf16::utf16_to_utf8;
 ghost use mathlib.Core.Path.{_≡_};
 ghost use Rattle.layout.specs.Bytes.{dataAsked, textAsked, givenIf, scalarAsked, startAsked, endAsked};
-ghost use Rattle.layout.specs.Said.{askedSaid};
 ghost use Rattle.reader.specs.Request.{askedOf, lengthSaid, scratchAfter, partSaid};
-ghost use Rattle.reader.specs.Said.{textSaid};
+ghost use Rattle.reader.specs.Said.{textSaid, askedSaid};
 ghost use Rattle.object.specs.Container.{containerAt};
 ghost use Rattle.object.specs.Object.{objectAt};
 ghost use Rattle.number.specs.declared.width.Width.the-variants.{One};
@@ -29,6 +28,14 @@ ghost use Rattle.number.specs.declared.width.Width.the-variants.{One};
 pub enum TextLength {
     Length(u64),
     Refused(Refusal, u64),
+}
+
+// Where the bytes of a record stand: in the file as they are, in the file as UTF-16, or nowhere, since it has none; or the file doesn't give it.
+enum Asked {
+    InFile(Part),
+    InUtf16(Part),
+    NoBytes,
+    Denied(Refusal),
 }
 
 // The first call: the length, with UTF-16 text changed to UTF-8 at the start of the scratch.
@@ -84,7 +91,7 @@ fn asked_for(file: &[u8], handed: Record) -> Asked
     ensures { λ r. ⌜ askedSaid r ≡ askedOf (now (file .entry)) handed ⌝ }
 {
     if Reader::MAX_LENGTH < file.len() {
-        return Asked::Denied(Refusal::TooLong);
+        return Asked::Denied(Refusal::File(layout::refusal::Refusal::TooLong));
     }
     let event = handed.event;
     let at = handed.offset as usize;
@@ -108,13 +115,7 @@ fn data_at(file: &[u8], at: usize) -> Asked
 {
     match object_at(file, Width::One, at) {
         Object::Data(part) => Asked::InFile(part),
-        Object::Outside => Asked::Denied(Refusal::WrongFile),
-        Object::Refused(_) => Asked::Denied(Refusal::WrongFile),
-        Object::Scalar(_) => Asked::Denied(Refusal::WrongFile),
-        Object::Utf8(_) => Asked::Denied(Refusal::WrongFile),
-        Object::Utf16(_) => Asked::Denied(Refusal::WrongFile),
-        Object::Array(_) => Asked::Denied(Refusal::WrongFile),
-        Object::Dictionary(_) => Asked::Denied(Refusal::WrongFile),
+        _ => Asked::Denied(Refusal::WrongFile),
     }
 }
 
@@ -124,12 +125,7 @@ fn text_at(file: &[u8], at: usize) -> Asked
     match object_at(file, Width::One, at) {
         Object::Utf8(part) => Asked::InFile(part),
         Object::Utf16(part) => Asked::InUtf16(part),
-        Object::Outside => Asked::Denied(Refusal::WrongFile),
-        Object::Refused(_) => Asked::Denied(Refusal::WrongFile),
-        Object::Scalar(_) => Asked::Denied(Refusal::WrongFile),
-        Object::Data(_) => Asked::Denied(Refusal::WrongFile),
-        Object::Array(_) => Asked::Denied(Refusal::WrongFile),
-        Object::Dictionary(_) => Asked::Denied(Refusal::WrongFile),
+        _ => Asked::Denied(Refusal::WrongFile),
     }
 }
 
@@ -139,13 +135,7 @@ fn scalar_at(file: &[u8], at: usize, event: Event) -> Asked
 {
     match object_at(file, Width::One, at) {
         Object::Scalar(found) => given_if(is_same(event, found)),
-        Object::Outside => Asked::Denied(Refusal::WrongFile),
-        Object::Refused(_) => Asked::Denied(Refusal::WrongFile),
-        Object::Data(_) => Asked::Denied(Refusal::WrongFile),
-        Object::Utf8(_) => Asked::Denied(Refusal::WrongFile),
-        Object::Utf16(_) => Asked::Denied(Refusal::WrongFile),
-        Object::Array(_) => Asked::Denied(Refusal::WrongFile),
-        Object::Dictionary(_) => Asked::Denied(Refusal::WrongFile),
+        _ => Asked::Denied(Refusal::WrongFile),
     }
 }
 

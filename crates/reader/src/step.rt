@@ -2,6 +2,7 @@
 use crate::answer::Answer;
 use crate::answer::Record;
 use crate::answer::Stepped;
+use crate::refusal::Refusal;
 use crate::state::Reader;
 use crate::state::is_open;
 use event::Event;
@@ -12,8 +13,7 @@ use layout::layout::due_at;
 use layout::lookup::Look;
 use layout::lookup::look_up;
 use layout::lookup::start_of;
-use layout::refusal::Refusal;
-use layout::refusal::number_of;
+use layout::refusal::Refusal as FileRefusal;
 use layout::trailer::TrailerRead;
 use layout::trailer::trailer_of;
 use number::width::Size;
@@ -23,11 +23,10 @@ ghost use mathlib.Core.Path.{_≡_};
 ghost use Prim.Native.Nat.{_≤_};
 ghost use lib.ListN.{length};
 ghost use Rattle.layout.specs.Layout.{lookOf};
-ghost use Rattle.layout.specs.Said.{numberOf, valuesOf};
 ghost use Rattle.layout.specs.Trailer.{trailerIn};
-ghost use Rattle.reader.specs.Machine.{step, eventAt, refused, refuse, refusedIn, arrive};
+ghost use Rattle.reader.specs.Machine.{step, eventAt, refused, refuse, arrive};
 ghost use Rattle.reader.specs.Next.{laidOut, begin as beginSaid, nextOf};
-ghost use Rattle.reader.specs.Said.{said, stepSaid};
+ghost use Rattle.reader.specs.Said.{numberOf, valuesOf, said, stepSaid};
 ghost use Rattle.reader.specs.State.{maxLength};
 
 // A refusal that ends the reader.
@@ -64,7 +63,7 @@ impl Reader {
             };
         }
         if Reader::MAX_LENGTH < file.len() {
-            return self.kept(Refusal::TooLong, 0);
+            return self.kept(Refusal::File(FileRefusal::TooLong), 0);
         }
         if self.length as usize != file.len() {
             return self.kept(Refusal::WrongFile, 0);
@@ -104,8 +103,11 @@ impl Reader {
                 };
             }
             Due::Member(object) => match look_up(file, layout, object, self.place) {
+                Look::Missing => {
+                    return self.kept(Refusal::WrongFile, 0);
+                }
                 Look::Refused(refusal, place) => {
-                    return self.refused(refusal, place);
+                    return ended(Refusal::File(refusal), place);
                 }
                 Look::Scalar(event, _, offset) => {
                     self.frames[top].position = self.frames[top].position + 1;
@@ -140,16 +142,6 @@ impl Reader {
         }
     }
 
-    // A refusal of what is looked up: 17 leaves the state as it is, any other ends the reader.
-    fn refused(self, refusal: Refusal, place: u64) -> Stepped
-        ensures { λ s. ⌜ stepSaid s ≡ refusedIn self (numberOf refusal) (valuesOf refusal) place ⌝ }
-    {
-        if number_of(refusal) == 17 {
-            return self.kept(refusal, place);
-        }
-        ended(refusal, place)
-    }
-
     // A refusal that leaves the state as it is.
     fn kept(self, refusal: Refusal, place: u64) -> Stepped
         ensures { λ s. ⌜ stepSaid s ≡ step self (refused (numberOf refusal) (valuesOf refusal) place) ⌝ }
@@ -165,8 +157,8 @@ impl Reader {
         ensures { λ s. ⌜ stepSaid s ≡ beginSaid (now (file .entry)) self (trailerIn (now (file .entry))) ⌝ }
     {
         match trailer_of(file) {
-            TrailerRead::Keeps(refusal, place) => self.kept(refusal, place),
-            TrailerRead::Ends(refusal, place) => ended(refusal, place),
+            TrailerRead::Keeps(refusal, place) => self.kept(Refusal::File(refusal), place),
+            TrailerRead::Ends(refusal, place) => ended(Refusal::File(refusal), place),
             TrailerRead::Lays(layout, root) => at_root(file, layout, root),
         }
     }
@@ -178,7 +170,8 @@ fn at_root(file: &[u8], layout: Layout, root: u64) -> Stepped
     ensures { λ s. ⌜ stepSaid s ≡ arrive (laidOut (now (file .entry)) layout) root (lookOf (now (file .entry)) layout root) ⌝ }
 {
     match look_up(file, layout, root, layout.table as u64) {
-        Look::Refused(refusal, place) => laid_out(file, layout).refused(refusal, place),
+        Look::Missing => laid_out(file, layout).kept(Refusal::WrongFile, 0),
+        Look::Refused(refusal, place) => ended(Refusal::File(refusal), place),
         Look::Scalar(event, _, offset) => Stepped {
             reader: Reader::ENDED,
             answer: handed(event, offset),

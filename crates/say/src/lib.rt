@@ -1,19 +1,28 @@
-// The reader's answers as lines, written to a descriptor, and the listing of a whole file.
+// The reader's answers as lines, written to a descriptor, and the listing of a whole file. No promise says what a descriptor takes; what the lent
+// memories hold afterwards is promised of each function here.
 pub mod list;
 
-use event::Event;
-use layout::refusal::number_of;
+use digits::Put;
 use line::put::Fixed;
-use line::put::Put;
 use line::put::put_event;
 use line::put::put_fixed;
 use line::put::put_refusal;
 use reader::answer::Answer;
 use reader::answer::Record;
+use reader::refusal::number_of;
 use reader::request::text_length;
 use reader::request::text_part;
+ghost use mathlib.Core.Path.{_≡_};
+ghost use Rattle.digits.specs.Put.{putEnd, putInto};
+ghost use Rattle.line.specs.Line.{refusalLine};
+ghost use Rattle.line.specs.Put.{fixedLine};
+ghost use Rattle.reader.specs.Request.{askedOf, scratchAfter};
+ghost use Rattle.say.specs.Say.{filledLine, recordLine, answerLine, answerScratch};
 
-pub fn say_answer(to: i32, file: &[u8], scratch: &mut [u8], out: &mut [u8], answer: Answer) {
+pub fn say_answer(to: i32, file: &[u8], scratch: &mut [u8], out: &mut [u8], answer: Answer)
+    ensures { λ _. ⌜ now (scratch .exit) ≡ answerScratch (now (file .entry)) (now (scratch .entry)) answer ⌝ }
+    ensures { λ _. ⌜ now (out .exit) ≡ putInto (now (out .entry)) 0 (answerLine (now (file .entry)) (now (scratch .entry)) answer) ⌝ }
+{
     match answer {
         Answer::Handed(handed) => say_event(to, file, scratch, out, handed),
         Answer::Ended => say_fixed(to, out, Fixed::End),
@@ -21,48 +30,53 @@ pub fn say_answer(to: i32, file: &[u8], scratch: &mut [u8], out: &mut [u8], answ
     }
 }
 
-// The bytes of data and text are asked for first. The part is empty where the request is refused.
-pub fn say_event(to: i32, file: &[u8], scratch: &mut [u8], out: &mut [u8], handed: Record) {
-    if has_bytes(handed) {
-        text_length(file, scratch, handed);
-        say_filled(to, file, scratch, out, handed);
-    } else {
-        say_filled(to, file, scratch, out, handed);
-    }
+pub fn say_event(to: i32, file: &[u8], scratch: &mut [u8], out: &mut [u8], handed: Record)
+    ensures { λ _. ⌜ now (scratch .exit) ≡ scratchAfter (now (file .entry)) (now (scratch .entry)) (askedOf (now (file .entry)) handed) ⌝ }
+    ensures { λ _. ⌜ now (out .exit) ≡ putInto (now (out .entry)) 0 (recordLine (now (file .entry)) (now (scratch .entry)) handed) ⌝ }
+{
+    let put = put_record(file, scratch, out, handed);
+    say_put(to, out, put);
 }
 
-// An event whose bytes have been asked for, if it has any.
-pub(crate) fn say_filled(to: i32, file: &[u8], scratch: &mut [u8], out: &mut [u8], handed: Record) {
+// The line of a record, at the start of the memory. Its bytes are asked for first; there are none where the request is refused.
+pub fn put_record(file: &[u8], scratch: &mut [u8], out: &mut [u8], handed: Record) -> Put
+    ensures { λ r. ⌜ r ≡ putEnd (now (out .entry)) 0 (recordLine (now (file .entry)) (now (scratch .entry)) handed) ⌝ }
+    ensures { λ _. ⌜ now (scratch .exit) ≡ scratchAfter (now (file .entry)) (now (scratch .entry)) (askedOf (now (file .entry)) handed) ⌝ }
+    ensures { λ _. ⌜ now (out .exit) ≡ putInto (now (out .entry)) 0 (recordLine (now (file .entry)) (now (scratch .entry)) handed) ⌝ }
+{
+    text_length(file, scratch, handed);
+    put_filled(file, scratch, out, handed)
+}
+
+// The line of a record whose bytes have been asked for.
+pub(crate) fn put_filled<'a>(
+    file: &'a [u8],
+    scratch: &'a [u8],
+    out: &mut [u8],
+    handed: Record,
+) -> Put
+    ensures { λ r. ⌜ r ≡ putEnd (now (out .entry)) 0 (filledLine (now (file .entry)) (now (scratch .entry)) handed) ⌝ }
+    ensures { λ _. ⌜ now (out .exit) ≡ putInto (now (out .entry)) 0 (filledLine (now (file .entry)) (now (scratch .entry)) handed) ⌝ }
+{
     let event = handed.event;
-    if has_bytes(handed) {
-        let put = put_event(out, 0, event, text_part(file, scratch, handed));
-        say_put(to, out, put);
-    } else {
-        let put = put_event(out, 0, event, b"");
-        say_put(to, out, put);
-    }
+    put_event(out, 0, event, text_part(file, scratch, handed))
 }
 
-pub(crate) fn has_bytes(handed: Record) -> bool {
-    let event = handed.event;
-    match event {
-        Event::Data => true,
-        Event::String => true,
-        _ => false,
-    }
-}
-
-pub fn say_fixed(to: i32, out: &mut [u8], fixed: Fixed) {
+pub fn say_fixed(to: i32, out: &mut [u8], fixed: Fixed)
+    ensures { λ _. ⌜ now (out .exit) ≡ putInto (now (out .entry)) 0 (fixedLine fixed) ⌝ }
+{
     let put = put_fixed(out, 0, fixed);
     say_put(to, out, put);
 }
 
-pub fn say_refusal(to: i32, out: &mut [u8], number: u64, place: u64) {
+pub fn say_refusal(to: i32, out: &mut [u8], number: u64, place: u64)
+    ensures { λ _. ⌜ now (out .exit) ≡ putInto (now (out .entry)) 0 (refusalLine number place) ⌝ }
+{
     let put = put_refusal(out, 0, number, place);
     say_put(to, out, put);
 }
 
-// The line at the start of the memory.
+// Prints the line at the start of the memory.
 pub fn say_put(to: i32, out: &[u8], put: Put) {
     match put {
         Put::End(end) => {

@@ -1,13 +1,13 @@
 // The listing: one line for each event, until the end, a refusal, or the last event that is listed.
-use crate::has_bytes;
+use crate::put_filled;
 use crate::say_answer;
-use crate::say_filled;
 use crate::say_fixed;
+use crate::say_put;
 use crate::say_refusal;
-use layout::refusal::number_of;
 use line::put::Fixed;
 use reader::answer::Answer;
 use reader::answer::Record;
+use reader::refusal::number_of;
 use reader::request::TextLength;
 use reader::request::text_length;
 use reader::state::Reader;
@@ -53,17 +53,15 @@ fn list(to: i32, file: &[u8], scratch: &mut [u8], line: &mut [u8]) {
         if lacks_room(to, file, scratch, line, handed) {
             return;
         }
-        say_filled(to, file, scratch, line, handed);
+        let put = put_filled(file, scratch, line, handed);
+        say_put(to, line, put);
         left -= 1;
     }
     say_fixed(to, line, Fixed::Stopped);
 }
 
-// The bytes of data and text are asked for. A text that the scratch has no room for ends the listing with refusal 16.
+// A record's bytes are asked for. A text that the scratch has no room for ends the listing with refusal 16.
 fn lacks_room(to: i32, file: &[u8], scratch: &mut [u8], line: &mut [u8], handed: Record) -> bool {
-    if has_bytes(handed) == false {
-        return false;
-    }
     let TextLength::Refused(refusal, place) = text_length(file, scratch, handed) else {
         return false;
     };

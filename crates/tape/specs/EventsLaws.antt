@@ -132,7 +132,8 @@ events-run (m ∷ ms) k p q h =
     let ih : eventsFrom (length ms + k) t (length p + length s) ≡ beforeAll ms (eventsFrom k t (length p + length (s ++ tapeOf ms))) = rw (f, length-append p s, n) at (events-run ms k (p ++ s) q (h .1)) in
     rw suc-add (events-next (length ms + k) t (length p) m (length p + length s) l r ∙ ap (before m) ih)
 
-tape-long : (ms : List Meaning) → length ms ≤ length (tapeOf ms)
+-- an event has a byte at least
+pub tape-long : (ms : List Meaning) → length ms ≤ length (tapeOf ms)
 unfolding tapeOf
 tape-long [] = omega arith
 tape-long (m ∷ ms) = simp length-append (omega (arith, bytes-some m, tape-long ms))
@@ -164,7 +165,7 @@ unfolding tapeOf
 tape-append [] ns = refl
 tape-append (m ∷ ms) ns = rw (tape-append ms ns, append-assoc)
 
-all-append : (ms ns : List Meaning) → AllOnTape ms → AllOnTape ns → AllOnTape (ms ++ ns)
+pub all-append : (ms ns : List Meaning) → AllOnTape ms → AllOnTape ns → AllOnTape (ms ++ ns)
 all-append [] ns f g = g
 all-append (m ∷ ms) ns f g = (f .0, all-append ms ns (f .1) g)
 

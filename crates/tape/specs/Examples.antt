@@ -4,21 +4,15 @@ use mathlib.Core.List.{List, [], _∷_, map}
 use mathlib.Core.Option.{none, some}
 use mathlib.Core.Path.{_≡_, refl}
 use Prim.Native.Nat.{ℕ}
-use lib.Ieee.{nanBits, isNan, ofBits, toBits}
 use lib.IntN.{pos, negsuc}
 use lib.ListN.{replicate}
-use Rattle.event.specs.Date.{isDate}
 use Rattle.event.specs.DateLaws.{largest, beyond}
-use Rattle.event.specs.Meaning.{Meaning, array, dictionary, close, boolean, bytes, date, integer, real, text, uid, meaningOf, valueOf, givenOf}
-use Rattle.event.specs.Real.{realOf, floatBits}
-use Rattle.number.specs.Be.{be, onto as digit, bytesOf}
-use Rattle.tape.specs.Append.{held, refused, fits, putOf, putTo, appendOf, appendTo}
-use Rattle.tape.specs.Code.{bytesFor, allowed}
-use Rattle.tape.specs.Events.{whole, broken, before, eventsFrom, eventsOf}
-use Rattle.tape.specs.Item.{plain, bytesAt, numbered, negative, dateIn, dataIn, textIn, ofKind, itemAt, meaningIn, event, bad, readingOf, readAt}
-use Rattle.tape.specs.Seven.{groups, seven}
-use Rattle.tape.specs.Value.{onto, numberFrom, numberAt, eightAt}
-use Rattle.unicode.specs.Unicode.{isUtf8, wellFormed, rowOf, table, within}
+use Rattle.event.specs.Meaning.{Meaning, array, dictionary, close, boolean, bytes, date, integer, real, text, uid}
+use Rattle.tape.specs.Append.{held, refused, appendOf, appendTo}
+use Rattle.tape.specs.Code.{bytesFor}
+use Rattle.tape.specs.Computed.{computed}
+use Rattle.tape.specs.Events.{whole, broken, eventsOf}
+use Rattle.tape.specs.Item.{event, bad, readAt}
 
 -- false, true; 0, 127, 128, 2^64 - 1; -1, -2^63; 1.5; a NaN; -0 as a date; UID 300
 -- data AB CD, no data; text of two bytes, no text; containers without and with a length; an end
@@ -73,11 +67,11 @@ tapes =
     []
 
 pub written : map bytesFor meanings ≡ tapes
-unfolding bytesFor bytesOf seven groups
+unfolding computed
 written = refl
 
 pub read : map eventsOf tapes ≡ map (λ (m : Meaning). whole (m ∷ [])) meanings
-unfolding eventsOf eventsFrom before readAt readingOf itemAt ofKind plain bytesAt numbered negative dateIn isDate dataIn textIn meaningIn meaningOf valueOf givenOf realOf floatBits nanBits isNan ofBits toBits numberAt numberFrom onto eightAt be digit isUtf8 wellFormed rowOf table within
+unfolding computed
 read = refl
 
 -- no byte; kinds 00 and 0F; 0 in two groups; 2^64; eleven groups; a number that doesn't end; -1 - 2^63; 7 bytes of a real; data that is
@@ -98,7 +92,7 @@ pub not-events :
     (0x09 ∷ 0x02 ∷ 0xC0 ∷ 0x80 ∷ []) ∷
     []) ≡
     (bad ∷ bad ∷ bad ∷ bad ∷ bad ∷ bad ∷ bad ∷ bad ∷ bad ∷ bad ∷ bad ∷ bad ∷ [])
-unfolding readAt readingOf itemAt ofKind plain bytesAt numbered negative dateIn isDate dataIn textIn numberAt numberFrom onto eightAt isUtf8 wellFormed rowOf table within
+unfolding computed
 not-events = refl
 
 -- dates at the limits: the neighbours of infinity are read and appended; infinities and NaNs are no event, and are refused
@@ -107,7 +101,7 @@ pub dates :
     (map (λ (b : ℕ). readAt (bytesFor (date b)) 0) beyond ≡ replicate 5 bad) ×
     (map (λ (b : ℕ). appendOf (replicate 9 0xEE) 0 (date b)) largest ≡ replicate 2 (held 9)) ×
     (map (λ (b : ℕ). appendOf (replicate 9 0xEE) 0 (date b)) beyond ≡ replicate 5 (refused 20 0))
-unfolding readAt readingOf itemAt ofKind plain dateIn isDate meaningIn meaningOf eightAt be digit bytesFor bytesOf appendOf putOf fits allowed
+unfolding computed
 dates = (refl, refl, refl, refl)
 
 -- P10 of docs/FORMAT.md as a tape, and a tape that is bad behind its first event
@@ -115,7 +109,7 @@ pub walked :
     map eventsOf
     ((0x0B ∷ 0x03 ∷ 0x03 ∷ 0x01 ∷ 0x09 ∷ 0x01 ∷ 0x61 ∷ 0x03 ∷ 0x01 ∷ 0x0E ∷ []) ∷ (0x0A ∷ 0x0F ∷ []) ∷ []) ≡
     (whole (array (some 3) ∷ integer (pos 1) ∷ text (0x61 ∷ []) ∷ integer (pos 1) ∷ close ∷ []) ∷ broken (array none ∷ []) 1 ∷ [])
-unfolding eventsOf eventsFrom before readAt readingOf itemAt ofKind plain bytesAt numbered dataIn textIn meaningIn meaningOf valueOf givenOf numberAt numberFrom onto isUtf8 wellFormed rowOf table within
+unfolding computed
 walked = refl
 
 -- into four bytes of which one is held: 128, which just fits; 16384, which doesn't; C0 80 as text, which doesn't either and isn't UTF-8:
@@ -126,11 +120,11 @@ tape = 0x0A ∷ 0xEE ∷ 0xEE ∷ 0xEE ∷ []
 pub answers :
     (appendOf tape 1 (integer (pos 128)) ∷ appendOf tape 1 (integer (pos 16384)) ∷ appendOf tape 1 (text (0xC0 ∷ 0x80 ∷ [])) ∷ appendOf tape 5 close ∷ []) ≡
     (held 4 ∷ refused 27 1 ∷ refused 20 1 ∷ refused 27 5 ∷ [])
-unfolding appendOf putOf fits bytesFor allowed seven groups isUtf8 wellFormed rowOf table within
+unfolding computed
 answers = refl
 
 pub afterwards :
     (appendTo tape 1 (integer (pos 128)) ∷ appendTo tape 1 (integer (pos 16384)) ∷ []) ≡
     ((0x0A ∷ 0x03 ∷ 0x80 ∷ 0x01 ∷ []) ∷ tape ∷ [])
-unfolding appendTo putTo fits bytesFor allowed seven groups
+unfolding computed
 afterwards = refl

@@ -2,6 +2,7 @@ pub mod Append
 pub mod AppendLaws
 pub mod Code
 pub mod CodeLaws
+pub mod Computed
 pub mod End
 pub mod EndLaws
 pub mod Events
@@ -12,12 +13,14 @@ pub mod Item
 pub mod ItemLaws
 pub mod Kinds
 pub mod KindsLaws
+pub mod PlaceLaws
 pub mod Said
 pub mod SaidLaws
 pub mod SameLaws
 pub mod Seven
 pub mod SevenLaws
 pub mod StandsLaws
+pub mod StartLaws
 pub mod Value
 pub mod ValueLaws
 pub mod ValueLoop

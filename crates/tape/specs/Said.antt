@@ -16,5 +16,6 @@ unfoldable pub stepSaid : ℕ → Step → StepSaid
 stepSaid at (ItemOf i) = item i
 stepSaid at Bad = refused 20 at
 
+-- what the step at a place of a tape says
 unfoldable pub stepAt : List ℕ → ℕ → StepSaid
 stepAt tape at = stepSaid at (itemAt tape at)

@@ -21,6 +21,15 @@ pub stepSaid-one : (at : ℕ) (x y : Step) → stepSaid at x ≡ stepSaid at y �
 stepSaid-one at x y e = sym (step-again at x) ∙ ap stepFrom e ∙ step-again at y
 
 module _ (tape : List ℕ) (at : ℕ) where
+  -- what `step` promises of its answer, and that the answer is the definition's, are the same
+  pub item-said : {r : Step} → r ≡ itemAt tape at → stepSaid at r ≡ stepAt tape at
+  unfolding stepAt
+  item-said e = ap (stepSaid at) e
+
+  pub said-item : {r : Step} → stepSaid at r ≡ stepAt tape at → r ≡ itemAt tape at
+  unfolding stepAt
+  said-item {r = r} e = stepSaid-one at r (itemAt tape at) e
+
   -- bytes that aren't one whole event are refused with 20, at their place
   pub bad-refused : itemAt tape at ≡ Bad → stepAt tape at ≡ refused 20 at
   unfolding stepAt stepSaid

@@ -1,7 +1,6 @@
-// Where an event ends. Text and dates aren't looked at, so that a walk along a tape that has been stepped through once is quick.
+// Where an event ends. Text and dates aren't looked at.
 use crate::room::lacks_room;
 use crate::value::Value;
-use crate::value::length_at;
 use crate::value::number_at;
 ghost use mathlib.Core.Path.{_≡_};
 ghost use Rattle.tape.specs.End.{afterSize, afterNumber, afterNegative, afterBytes, endOf};
@@ -11,21 +10,8 @@ pub enum End {
     NoEvent,
 }
 
-// The place after the event whose kind stands at a place; `NoEvent` where `step` is bad for another reason than text that isn't UTF-8 or
-// a date that is none.
-pub fn end_of(tape: &[u8], at: usize) -> End
-    ensures { λ r. ⌜ r ≡ endOf (now (tape .entry)) at ⌝ }
-{
-    if at < tape.len() {
-        if tape[at] == 0x09 {
-            return after_bytes(tape.len(), length_at(tape, at + 1));
-        }
-    }
-    end_by_kind(tape, at)
-}
-
-// The same, no kind before the others. Most events of a tape are text, so that it has its own test above.
-fn end_by_kind(tape: &[u8], at: usize) -> End
+// The place after the event whose kind stands at a place, no kind before the others.
+pub(crate) fn end_by_kind(tape: &[u8], at: usize) -> End
     ensures { λ r. ⌜ r ≡ endOf (now (tape .entry)) at ⌝ }
 {
     if tape.len() <= at {
@@ -75,7 +61,7 @@ fn after_negative(number: Value) -> End
 }
 
 // A length, and so many bytes.
-fn after_bytes(end: usize, length: Value) -> End
+pub(crate) fn after_bytes(end: usize, length: Value) -> End
     ensures { λ r. ⌜ r ≡ afterBytes end length ⌝ }
 {
     let Value::Of(n, next) = length else {

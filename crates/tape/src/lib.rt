@@ -5,4 +5,5 @@ pub mod item;
 pub mod room;
 mod seven;
 pub mod step;
+pub mod unchecked;
 pub mod value;

@@ -16,12 +16,13 @@ use number::signed::negative_of;
 use unicode::utf8::is_utf8;
 ghost use mathlib.Core.Path.{_≡_};
 ghost use Prim.Native.Nat.{_+_, _^_, _<_};
-ghost use Rattle.tape.specs.Item.{plain, bytesAt, numbered as numberedBy, negative as negativeIn, dateIn, dataIn, textIn, itemAt};
+ghost use Rattle.tape.specs.Item.{plain, bytesAt, numbered as numberedBy, negative as negativeIn, dateIn, dataIn, textIn};
 ghost use Rattle.tape.specs.Kinds.{eventOf};
+ghost use Rattle.tape.specs.Said.{stepSaid, stepAt};
 
 // The event whose kind stands at a place. Bytes that aren't one whole event, in the tape's own form, are bad.
 pub fn step(tape: &[u8], at: usize) -> Step
-    ensures { λ r. ⌜ r ≡ itemAt (now (tape .entry)) at ⌝ }
+    ensures { λ r. ⌜ stepSaid at r ≡ stepAt (now (tape .entry)) at ⌝ }
 {
     if tape.len() <= at {
         return Step::Bad;
@@ -49,7 +50,7 @@ pub fn step(tape: &[u8], at: usize) -> Step
 // The same, for the check of a tape. Text, starts and ends, which most events are, have their own arms: called in one place, they become part
 // of its loop, which makes no event of them. On arrays in arrays the writer takes a sixth less time for it.
 pub fn quick_step(tape: &[u8], at: usize) -> Step
-    ensures { λ r. ⌜ r ≡ itemAt (now (tape .entry)) at ⌝ }
+    ensures { λ r. ⌜ stepSaid at r ≡ stepAt (now (tape .entry)) at ⌝ }
 {
     if tape.len() <= at {
         return Step::Bad;

@@ -42,7 +42,6 @@ module _ (n : ℕ) (file scratch tape : List ℕ) (held : ℕ) (some : 0 < n) (x
     pub call-failed : (f : Failure) → y ≡ failSaid f → onward n file scratch tape held x ≡ run (endOf (failSaid f)) held t s
     unfolding byNoted endOf failSaid
     call-failed (failure.Refused r p) k = call-noted ∙ rw k
-    call-failed (failure.BadEvent p) k = call-noted ∙ rw k
     call-failed (failure.NoRoomForTape p) k = call-noted ∙ rw k
 
 -- an event without bytes, noted

@@ -1,4 +1,5 @@
 pub mod Calls
 pub mod Listed
 pub mod Noting
+pub mod Told
 pub mod Walking

@@ -9,6 +9,7 @@ use lib.Dec.{ltb, leb}
 use lib.ListN.{length, take, drop, length-append}
 use lib.Seq.{take-append-seam}
 use Rattle.number.specs.BeLaws.{Bytes}
+use Rattle.number.specs.Either.{either}
 use Rattle.unicode.specs.Changed.{changedOf, changedTo}
 use Rattle.unicode.specs.Unicode.{isUtf16, toUtf8}
 use Rattle.unicode.specs.declared.changed.Changed.{Changed}
@@ -20,12 +21,11 @@ use Rattle.number.specs.Part.{part}
 use Rattle.object.specs.declared.read.Part.{Part}
 use Rattle.event.specs.Bare.{Bare}
 use Rattle.layout.specs.LookLaws.{bare-plain}
-use Rattle.layout.specs.Bytes.{Asked, inFile, inUtf16, noBytes, denied, eventAsked, hasBytes}
+use Rattle.layout.specs.Bytes.{Asked, inFile, inUtf16, noBytes, eventAsked, hasBytes}
 use Rattle.layout.specs.Looked.{Shape, array, dictionary, startOf}
-use Rattle.layout.specs.Said.{askedSaid, numberOf, valuesOf}
-use Rattle.layout.specs.declared.refusal.Refusal.{Refusal}
-use Rattle.layout.specs.declared.lookup.Asked.{Asked as AskedRead}
-use Rattle.layout.specs.declared.lookup.Asked.the-variants.{InFile, InUtf16, NoBytes, Denied}
+use Rattle.layout.specs.Said.{spanSaid}
+use Rattle.layout.specs.declared.lookup.Span.{Span}
+use Rattle.layout.specs.declared.lookup.Span.the-variants.{InFile, InUtf16, NoBytes}
 use Rattle.reader.specs.Machine.{recordOf}
 use Rattle.reader.specs.Meanings.{meaningAt, bytesAsked}
 use Rattle.reader.specs.Request.{askedOf, long, refusing, lengthSaid, scratchAfter}
@@ -33,7 +33,7 @@ use Rattle.reader.specs.State.{maxLength}
 use Rattle.reader.proofs.Inside.{AskedIn, asked-in}
 use Rattle.reader.proofs.Utf16.{is-written, no-room, is-text, filled}
 use Rattle.tape.specs.AppendLaws.{put-event}
-use Rattle.tape.specs.Append.{Said, putOf, putTo, appendOf, appendTo}
+use Rattle.tape.specs.Append.{Said, fits, putOf, putTo, appendOf, appendTo}
 use Rattle.tape.specs.Code.{bytesFor, allowed}
 use Rattle.tape.specs.Seven.{seven}
 use Rattle.transcribe.proofs.Calls.{plain-noted as noted-plain}
@@ -41,7 +41,7 @@ use Rattle.transcribe.specs.HandedLaws.{Given, given-allowed}
 use Rattle.transcribe.specs.Note.{Noted, noting, fromTape, putNote, noteOf}
 use Rattle.transcribe.specs.Note as note
 use Rattle.transcribe.specs.TranscriptLaws.{utf16Text, note-file, note-long, note-changed}
-use Rattle.transcribe.specs.Walk.{Notable}
+use Rattle.transcribe.specs.Walk.{Notable, Unchecked}
 
 -- the kind under which an event's bytes stand on the tape
 abbrev pub Kind : Event → ℕ → Type 0
@@ -51,6 +51,11 @@ Kind e n = (s : List ℕ) → n ∷ (seven (length s) ++ s) ≡ bytesFor (meanin
 abbrev pub startKind : Shape → ℕ
 startKind array = 0x0B
 startKind dictionary = 0x0D
+
+-- the tape refuses only what doesn't fit, where it checks nothing
+pub put-unchecked : (tape : List ℕ) (at : ℕ) (s : List ℕ) → Unchecked at (putOf tape at s)
+unfolding putOf
+put-unchecked tape at s = either (Unchecked at) (fits tape at s) _ _ (λ e. tt) (λ e. (refl, refl))
 
 -- a note, from what the tape answers and what becomes of it
 put-is : (s tape t : List ℕ) (held : ℕ) (m : Meaning) (n : Noted) → allowed m ≡ true → n ≡ fromTape (putOf tape held (bytesFor m)) → t ≡ putTo tape held (bytesFor m) → noting n t s ≡ putNote s tape held m
@@ -102,38 +107,33 @@ module _ (file scratch : List ℕ) (start n offset : ℕ) where
           absurd (omega arith)
       go false f = f
 
-module _ {file : List ℕ} {e : Event} {bytes : AskedRead} {offset : ℕ} (w : Notable file e bytes offset) where
+module _ {file : List ℕ} {e : Event} {span : Span} {offset : ℕ} (w : Notable file e span offset) where
   short : ltb maxLength (length file) ≡ false
   short = le-ltb _ _ (w .short)
 
-  stands : {a : Asked} → askedSaid bytes ≡ a → eventAsked file e offset ≡ a
+  stands : {a : Asked} → spanSaid span ≡ a → eventAsked file e offset ≡ a
   stands h = sym (w .stands) ∙ h
 
-  given : {a : Asked} → askedSaid bytes ≡ a → Given file e a
+  given : {a : Asked} → spanSaid span ≡ a → Given file e a
   given h = rw (stands h) at (w .given)
 
-  inside : {a : Asked} → askedSaid bytes ≡ a → AskedIn file a
+  inside : {a : Asked} → spanSaid span ≡ a → AskedIn file a
   unfolding askedOf
   inside h = rw (short, stands h) at (asked-in file (recordOf e offset))
 
-  -- what was handed out is given
-  pub never-denied : {r : Refusal} → bytes ≡ Denied r → ⊥
-  unfolding askedSaid
-  never-denied {r} h = given {a = denied (numberOf r) (valuesOf r)} (rw h)
-
   -- without bytes
-  module _ (h : bytes ≡ NoBytes) where
+  module _ (h : span ≡ NoBytes) where
     pub is-bare : Bare e
-    unfolding askedSaid
+    unfolding spanSaid
     is-bare = given {a = noBytes} (rw h)
 
     pub plain-noted : (scratch tape : List ℕ) (held : ℕ) (y : Noted) (t : List ℕ) → y ≡ fromTape (appendOf tape held (meaningOf e [])) → t ≡ appendTo tape held (meaningOf e []) → noting y t scratch ≡ noteOf file scratch tape held (recordOf e offset)
     plain-noted scratch tape held y t = noted-plain file scratch tape t held e offset y (bare-plain e is-bare)
 
   -- bytes of the file
-  module _ {p : Part} (h : bytes ≡ InFile p) where
-    in-file : askedSaid bytes ≡ inFile (p .start) (p .length)
-    unfolding askedSaid
+  module _ {p : Part} (h : span ≡ InFile p) where
+    in-file : spanSaid span ≡ inFile (p .start) (p .length)
+    unfolding spanSaid
     in-file = rw h
 
     pub file-end : p .start + p .length ≤ length file
@@ -152,9 +152,9 @@ module _ {file : List ℕ} {e : Event} {bytes : AskedRead} {offset : ℕ} (w : N
         rw file-means (sym (note-file file scratch tape held e offset short (given in-file .0) (p .start) (p .length) (stands in-file)))
 
   -- bytes of the file that are UTF-16
-  module _ {p : Part} (h : bytes ≡ InUtf16 p) where
-    in-utf16 : askedSaid bytes ≡ inUtf16 (p .start) (p .length)
-    unfolding askedSaid
+  module _ {p : Part} (h : span ≡ InUtf16 p) where
+    in-utf16 : spanSaid span ≡ inUtf16 (p .start) (p .length)
+    unfolding spanSaid
     in-utf16 = rw h
 
     pub utf16-end : p .start + p .length ≤ length file

@@ -27,12 +27,13 @@ use Rattle.layout.specs.declared.layout.Layout.{Layout}
 use Rattle.layout.specs.declared.layout.Standing.{Standing}
 use Rattle.layout.specs.declared.frame.Frame.{Frame}
 use Rattle.layout.proofs.Counts.{counted, numbered, measured}
-use Rattle.layout.specs.Said.{askedSaid}
-use Rattle.layout.specs.declared.lookup.Asked.{Asked as AskedRead}
+use Rattle.layout.specs.Refusals.{fileRefusals}
+use Rattle.layout.specs.Said.{spanSaid}
+use Rattle.layout.specs.declared.lookup.Span.{Span}
 use Rattle.reader.specs.Machine.{Step, recordOf, eventAt, step, enter, arrive, follow}
 use Rattle.reader.specs.Machine as reader
 use Rattle.reader.specs.Next.{laidOut}
-use Rattle.reader.specs.NextLaws.{next-due, arrive-refused, refusedIn-answer}
+use Rattle.reader.specs.NextLaws.{next-due, arrive-refused, arrive-missing}
 use Rattle.reader.specs.State.{maxOpen, maxLength, endedReader, innermost, openOf, memberOf, advanced, passed, entered, closed}
 use Rattle.reader.specs.declared.state.Reader.{Reader}
 use Rattle.tape.specs.Append.{appendOf, appendTo}
@@ -208,11 +209,17 @@ module _ (x : Turn) where
     unfolding follow sourceOf
     call-member = rw (call-due, d)
 
-    pub is-refused : (number : ℕ) (values : List ℕ) (place : ℕ) → withPlace (x .place) (looked object) ≡ faulty number values place → Ends (refused number values place) (x .held) (x .tape) (x .scratch)
+    pub is-missing : withPlace (x .place) (looked object) ≡ faulty 17 [] 0 → Ends (refused 17 [] 0) (x .held) (x .tape) (x .scratch)
     unfolding within
-    is-refused number values place f =
-        let e = call-member ∙ arrive-refused (x .file) (x .layout) reads object number values place (looked object) (look-right (x .file) (x .layout) object) f in
-        refuses number values place (ap (λ (s : Step). s .answer) e ∙ refusedIn-answer reads number values place)
+    is-missing f =
+        let e = call-member ∙ arrive-missing (x .file) (x .layout) reads object (looked object) (look-right (x .file) (x .layout) object) f in
+        refuses 17 [] 0 (ap (λ (s : Step). s .answer) e)
+
+    pub is-refused : (number : ℕ) (values : List ℕ) (place : ℕ) → among fileRefusals number ≡ true → withPlace (x .place) (looked object) ≡ faulty number values place → Ends (refused number values place) (x .held) (x .tape) (x .scratch)
+    unfolding within
+    is-refused number values place n f =
+        let e = call-member ∙ arrive-refused (x .file) (x .layout) reads object number values place n (looked object) f in
+        refuses number values place (ap (λ (s : Step). s .answer) e)
 
     module _ (e : Event) (offset : ℕ) (f : looked object ≡ scalar e offset) (y : Noted) (t s : List ℕ) (notes : Notes e offset y t s) where
       call-scalar : call ≡ step (passed reads offset) (eventAt e offset)
@@ -296,9 +303,9 @@ module _ (x : Turn) where
   still-long f g = rw (length-set, length-set) (x .long)
 
   -- with its bytes an event that was looked up can be noted
-  pub notable : (object : ℕ) (e : Event) (bytes : AskedRead) (offset : ℕ) → looked object ≡ scalar e offset → askedSaid bytes ≡ lookedBytes (x .file) (looked object) → Notable (x .file) e bytes offset
+  pub notable : (object : ℕ) (e : Event) (span : Span) (offset : ℕ) → looked object ≡ scalar e offset → spanSaid span ≡ lookedBytes (x .file) (looked object) → Notable (x .file) e span offset
   unfolding lookedBytes
-  notable object e bytes offset f b =
+  notable object e span offset f b =
       record { short = x .short; stands = b ∙ rw f; given = scalar-given (x .file) (x .layout) object e offset f }
 
   -- a container's number and length stay within 32 bits

@@ -28,7 +28,7 @@ use Rattle.layout.specs.LookLaws.{Bytes-right, Looked-right, look-right, close-
 use Rattle.layout.specs.Looked.{Shape, array, dictionary, Looked, barred, missing, faulty, scalar, container, startOf}
 use Rattle.layout.specs.Bytes.{Asked, inFile, inUtf16, noBytes, denied, eventAsked, hasBytes}
 use Rattle.number.specs.Either.{either}
-use Rattle.layout.specs.Refusals.{fileRefusals, file-refusal, trailer-refusal}
+use Rattle.layout.specs.Refusals.{file-refusal, keeps-refusal, ends-refusal, long-refusal}
 use Rattle.layout.specs.TrailerLaws.{Tells, tells}
 use Rattle.layout.specs.Trailer.{Trailer, keeps, ends, lays, trailerOf}
 use Rattle.layout.specs.declared.layout.Due.{Due}
@@ -68,10 +68,6 @@ listed-14 = refl
 listed-15 : among stepRefusals 15 ≡ true
 unfolding stepRefusals among
 listed-15 = refl
-
-listed-1 : among stepRefusals 1 ≡ true
-unfolding stepRefusals fileRefusals among
-listed-1 = refl
 
 pub start-bare : (shape : Shape) (n : ℕ) → Bare (startOf shape n)
 unfolding startOf
@@ -132,8 +128,8 @@ module _ (file : List ℕ) where
 
   begin-right : (r : Reader) (t : Trailer) → Tells file t → Handed (begin file r t .answer)
   unfolding begin
-  begin-right r (keeps number values place) h = inl (step-refusal number (trailer-refusal number (omega arith) (omega arith)))
-  begin-right r (ends number values place) h = inl (step-refusal number (trailer-refusal number (omega arith) (omega arith)))
+  begin-right r (keeps number values place) h = inl (step-refusal number (keeps-refusal number h))
+  begin-right r (ends number values place) h = inl (step-refusal number (ends-refusal number h))
   begin-right r (lays l root) h = arrive-right l (laidOut file l) root (lookOf file l root) (look-right file l root)
 
   -- an answer to any call is such a one
@@ -141,7 +137,7 @@ module _ (file : List ℕ) where
   unfolding nextOf
   next-handed r =
       either Answers (not (r .fresh) && eqb (r .depth) 0) _ _ (λ h. tt)
-      (λ h. either Answers (ltb maxLength (length file)) _ _ (λ h. inl listed-1)
+      (λ h. either Answers (ltb maxLength (length file)) _ _ (λ h. inl (step-refusal 1 long-refusal))
       (λ h. either Answers (r .fresh) _ _ (λ h. begin-right r (trailerOf file) (tells file))
       (λ h. either Answers (not (eqb (r .length) (length file))) _ _ (λ h. inr refl)
       (λ h. either Answers (ltb maxOpen (r .depth)) _ _ (λ h. inr refl)

@@ -7,3 +7,4 @@ pub mod Said
 pub mod SaidLaws
 pub mod TranscriptLaws
 pub mod Walk
+pub mod Computed

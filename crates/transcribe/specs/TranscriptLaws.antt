@@ -23,7 +23,7 @@ use Rattle.reader.specs.Machine as reader
 use Rattle.reader.specs.Meanings.{Told, means, bytesAsked, meaningAt, told, answers}
 use Rattle.reader.specs.Meanings as meanings
 use Rattle.reader.specs.Next.{nextOf}
-use Rattle.reader.specs.Refusals.{not-step-16, not-step-20, not-step-27}
+use Rattle.reader.specs.Refusals.{not-step-16, not-step-27}
 use Rattle.reader.specs.Request.{askedOf, lengthSaid, scratchAfter, partSaid}
 use Rattle.reader.specs.State.{maxLength, freshReader}
 use Rattle.reader.specs.declared.state.Reader.{Reader}
@@ -265,7 +265,7 @@ module _ {n : ℕ} {file scratch tape : List ℕ} {held : ℕ} {r : Reader} {x :
     refuses : Refuses file scratch tape (x .held) (w .next) number values place
     refuses = rw e at (w .ends)
 
-    -- any number but 16 and 27 is the reader's own, and then it is a step's, or 17: never 20
+    -- any number but 16 and 27 is the reader's own, and then it is a step's, or 17
     pub at-refusal : (number ≡ 16 → ⊥) → (number ≡ 27 → ⊥) → (w .next ≡ meanings.refused number values place) × Own number
     at-refusal f g = go (w .next) refuses
       where
@@ -274,9 +274,6 @@ module _ {n : ℕ} {file scratch tape : List ℕ} {held : ℕ} {r : Reader} {x :
         go (means m offset) (inr h) = absurd (g (h .says .0))
         go meanings.ended h = absurd h
         go (meanings.refused a b c) h = (rw (h .0, h .1, h .2), h .3)
-
-    pub never-bad-event : number ≡ 20 → ⊥
-    never-bad-event f = own-not number 20 (at-refusal (λ h. omega arith) (λ h. omega arith) .1) not-step-20 (λ e. omega arith) f
 
     -- 16 is the scratch's alone
     pub at-scratch : number ≡ 16 → (m : Meaning) × (offset : ℕ) × (w .next ≡ means m offset) × NoScratch file scratch m offset number values place

@@ -10,15 +10,16 @@ use Rattle.number.specs.Width.{bytesIn}
 use Rattle.event.specs.declared.Event.{Event}
 use Rattle.layout.specs.Layout.{dueIn}
 use Rattle.layout.specs.Bytes.{eventAsked}
-use Rattle.layout.specs.Said.{askedSaid}
+use Rattle.layout.specs.Said.{spanSaid}
 use Rattle.layout.specs.declared.layout.Due.{Due}
 use Rattle.layout.specs.declared.layout.Due.the-variants.{Member}
 use Rattle.layout.specs.declared.layout.Layout.{Layout}
 use Rattle.layout.specs.declared.layout.Standing.{Standing}
-use Rattle.layout.specs.declared.lookup.Asked.{Asked as AskedRead}
+use Rattle.layout.specs.declared.lookup.Span.{Span}
 use Rattle.layout.specs.declared.frame.Frame.{Frame}
 use Rattle.reader.specs.State.{maxLength}
 use Rattle.reader.specs.declared.state.Reader.{Reader}
+use Rattle.tape.specs.Append.{Said, held, refused}
 use Rattle.transcribe.specs.HandedLaws.{Given}
 
 -- the root where nothing is open, else what the innermost container says, which stands there
@@ -39,7 +40,12 @@ within file l place depth frames =
     record { fresh = false; length = length file; offsets = bytesIn (l .offsets); refs = bytesIn (l .refs); count = l .count; table = l .table; place = place; depth = depth; frames = frames }
 
 -- an event that a reader handed out, with where its bytes stand
-pub record Notable (file : List ℕ) (e : Event) (bytes : AskedRead) (offset : ℕ) : Type 0 where
+pub record Notable (file : List ℕ) (e : Event) (span : Span) (offset : ℕ) : Type 0 where
   pub short : length file ≤ maxLength
-  pub stands : askedSaid bytes ≡ eventAsked file e offset
+  pub stands : spanSaid span ≡ eventAsked file e offset
   pub given : Given file e (eventAsked file e offset)
+
+-- what the tape answers where it checks nothing: an event is held, or doesn't fit
+abbrev pub Unchecked : ℕ → Said → Type 0
+Unchecked at (held n) = Unit {0}
+Unchecked at (refused number place) = (number ≡ 27) × (place ≡ at)

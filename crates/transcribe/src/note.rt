@@ -1,17 +1,13 @@
 // One event put on the tape.
 use event::Event;
 use event::real::float_bits;
-use layout::lookup::Asked;
 use layout::lookup::Shape;
-use layout::refusal::Refusal;
+use layout::lookup::Span;
+use reader::refusal::Refusal;
 use tape::append::Appended;
-use tape::append::append_unchecked;
 use tape::append::put_boolean;
-use tape::append::put_bytes_unchecked;
-use tape::append::put_eight;
 use tape::append::put_integer;
-use tape::append::put_kind;
-use tape::append::put_number;
+use tape::unchecked;
 use unicode::changed::Changed;
 use unicode::utf16::utf16_to_utf8;
 ghost use mathlib.Core.Bool.{true};
@@ -31,12 +27,11 @@ ghost use Rattle.tape.specs.Code.{bytesFor};
 ghost use Rattle.tape.specs.Seven.{seven};
 ghost use Rattle.transcribe.specs.Note.{fromTape, noting, noteOf};
 ghost use Rattle.transcribe.specs.Said.{noteSaid};
-ghost use Rattle.transcribe.specs.Walk.{Notable};
+ghost use Rattle.transcribe.specs.Walk.{Notable, Unchecked};
 
 // Why an event is not noted.
 pub enum Failure {
     Refused(Refusal, u64),
-    BadEvent(u64),
     NoRoomForTape(u64),
 }
 
@@ -54,27 +49,30 @@ pub(crate) fn note(
     tape: &mut [u8],
     held: usize,
     event: Event,
-    bytes: Asked,
+    span: Span,
     offset: u64,
 ) -> NoteAnswer
-    requires { ⌜ Notable (now file) event bytes offset ⌝ }
+    requires { ⌜ Notable (now file) event span offset ⌝ }
     ensures { λ r. ⌜ noting (noteSaid r) (now (tape .exit)) (now (scratch .exit)) ≡ noteOf (now (file .entry)) (now (scratch .entry)) (now (tape .entry)) held (recordOf event offset) ⌝ }
 {
-    match bytes {
-        Asked::NoBytes => note_plain(tape, held, event),
-        Asked::InFile(part) => {
+    match span {
+        Span::NoBytes => note_plain(tape, held, event),
+        Span::InFile(part) => {
             let start = part.start;
             let end = start + part.length;
             let kind = bytes_kind(event);
-            noted(put_bytes_unchecked(tape, held, kind, &file[start..end]))
+            noted(
+                unchecked::put_bytes(tape, held, kind, &file[start..end]),
+                held,
+            )
         }
-        Asked::InUtf16(part) => {
+        Span::InUtf16(part) => {
             let start = part.start;
             let end = start + part.length;
             match utf16_to_utf8(&file[start..end], scratch) {
                 Changed::Written(n) => {
                     let kind = bytes_kind(event);
-                    noted(put_bytes_unchecked(tape, held, kind, &scratch[..n]))
+                    noted(unchecked::put_bytes(tape, held, kind, &scratch[..n]), held)
                 }
                 Changed::NoRoom => NoteAnswer::Fails(Failure::Refused(
                     Refusal::NoRoomForText,
@@ -84,8 +82,6 @@ pub(crate) fn note(
                 Changed::NotText => NoteAnswer::Fails(Failure::Refused(Refusal::WrongFile, 0)),
             }
         }
-        // What was looked up in a file is given by it.
-        Asked::Denied(refusal) => NoteAnswer::Fails(Failure::Refused(refusal, 0)),
     }
 }
 
@@ -107,8 +103,8 @@ pub(crate) fn note_start(tape: &mut [u8], held: usize, shape: Shape, length: u64
     ensures { λ _. ⌜ now (tape .exit) ≡ appendTo (now (tape .entry)) held (meaningOf (startOf (shapeSaid shape) length) []) ⌝ }
 {
     match shape {
-        Shape::Array => noted(put_number(tape, held, 0x0b, length)),
-        Shape::Dictionary => noted(put_number(tape, held, 0x0d, length)),
+        Shape::Array => noted(unchecked::put_number(tape, held, 0x0b, length), held),
+        Shape::Dictionary => noted(unchecked::put_number(tape, held, 0x0d, length), held),
     }
 }
 
@@ -117,7 +113,7 @@ pub(crate) fn note_end(tape: &mut [u8], held: usize) -> NoteAnswer
     ensures { λ r. ⌜ noteSaid r ≡ fromTape (appendOf (now (tape .entry)) held (meaningOf EndCollection [])) ⌝ }
     ensures { λ _. ⌜ now (tape .exit) ≡ appendTo (now (tape .entry)) held (meaningOf EndCollection []) ⌝ }
 {
-    noted(put_kind(tape, held, 0x0e))
+    noted(unchecked::put_kind(tape, held, 0x0e), held)
 }
 
 // An event without bytes.
@@ -126,10 +122,10 @@ fn note_plain(tape: &mut [u8], held: usize, event: Event) -> NoteAnswer
     ensures { λ r. ⌜ noteSaid r ≡ fromTape (appendOf (now (tape .entry)) held (meaningOf event [])) ⌝ }
     ensures { λ _. ⌜ now (tape .exit) ≡ appendTo (now (tape .entry)) held (meaningOf event []) ⌝ }
 {
-    noted(put_plain(tape, held, event))
+    noted(put_plain(tape, held, event), held)
 }
 
-// The same by the function of its kind: some 40 instructions a number less than by `append_unchecked`, which has other callers and so
+// The same by the function of its kind: some 40 instructions a number less than by `unchecked::append`, which has other callers and so
 // stays a call. No object is the start or end of a container or data or text here.
 fn put_plain(tape: &mut [u8], held: usize, event: Event) -> Appended
     ensures { λ r. ⌜ said r ≡ putOf (now (tape .entry)) held (bytesFor (meaningOf event [])) ⌝ }
@@ -137,22 +133,22 @@ fn put_plain(tape: &mut [u8], held: usize, event: Event) -> Appended
 {
     match event {
         Event::Boolean(value) => put_boolean(tape, held, value),
-        Event::Date(bits) => put_eight(tape, held, 0x06, bits),
+        Event::Date(bits) => unchecked::put_eight(tape, held, 0x06, bits),
         Event::Integer(value) => put_integer(tape, held, value),
-        Event::Real(value) => put_eight(tape, held, 0x05, float_bits(value)),
-        Event::Nan(bits) => put_eight(tape, held, 0x05, bits),
-        Event::Uid(n) => put_number(tape, held, 0x07, n),
-        _ => append_unchecked(tape, held, event, b""),
+        Event::Real(value) => unchecked::put_eight(tape, held, 0x05, float_bits(value)),
+        Event::Nan(bits) => unchecked::put_eight(tape, held, 0x05, bits),
+        Event::Uid(n) => unchecked::put_number(tape, held, 0x07, n),
+        _ => unchecked::append(tape, held, event, b""),
     }
 }
 
-// What the tape answers is the note's answer.
-fn noted(appended: Appended) -> NoteAnswer
+// What the tape answers is the note's answer. It is asked to check nothing here, so all it refuses is what doesn't fit.
+fn noted(appended: Appended, held: usize) -> NoteAnswer
+    requires { ⌜ Unchecked held (said appended) ⌝ }
     ensures { λ r. ⌜ noteSaid r ≡ fromTape (said appended) ⌝ }
 {
-    match appended {
-        Appended::Held(n) => NoteAnswer::Held(n),
-        Appended::BadEvent(place) => NoteAnswer::Fails(Failure::BadEvent(place)),
-        Appended::NoRoom(place) => NoteAnswer::Fails(Failure::NoRoomForTape(place)),
-    }
+    let Appended::Held(n) = appended else {
+        return NoteAnswer::Fails(Failure::NoRoomForTape(held as u64));
+    };
+    NoteAnswer::Held(n)
 }

@@ -14,17 +14,17 @@ use layout::layout::due_in;
 use layout::layout::stands_at;
 use layout::lookup::Look;
 use layout::lookup::look_up;
-use layout::refusal::Refusal;
 use object::container::container_at;
+use reader::refusal::Refusal;
 use reader::state::Reader;
 ghost use mathlib.Core.Path.{_≡_};
 ghost use Prim.Native.Nat.{_≤_, _-_};
 ghost use lib.ListN.{length};
 ghost use Rattle.number.specs.Among.{among};
 ghost use Rattle.layout.specs.Layout.{lookOf};
-ghost use Rattle.layout.specs.Said.{numberOf, valuesOf};
 ghost use Rattle.reader.specs.Machine.{arrive};
 ghost use Rattle.reader.specs.Next.{laidOut};
+ghost use Rattle.reader.specs.Said.{numberOf, valuesOf};
 ghost use Rattle.reader.specs.State.{maxLength};
 ghost use Rattle.transcribe.specs.Run.{run, refused as refusedEnd, endOf, finishedOf, onward};
 ghost use Rattle.transcribe.specs.Said.{failSaid, endSaid};
@@ -78,16 +78,19 @@ pub(crate) fn walk(
                 }
             },
             Due::Member(object) => match look_up(file, layout, object, place) {
-                Look::Refused(refusal, refused_at) => {
-                    return refused(refusal, refused_at, held);
+                Look::Missing => {
+                    return refused(Refusal::WrongFile, 0, held);
                 }
-                Look::Scalar(event, bytes, offset) => match note(
+                Look::Refused(refusal, refused_at) => {
+                    return refused(Refusal::File(refusal), refused_at, held);
+                }
+                Look::Scalar(event, span, offset) => match note(
                     file,
                     scratch,
                     tape,
                     held,
                     event,
-                    bytes,
+                    span,
                     offset,
                 ) {
                     NoteAnswer::Fails(failure) => {
@@ -243,10 +246,6 @@ fn failed(failure: Failure, held: usize) -> Transcript
 {
     match failure {
         Failure::Refused(refusal, place) => refused(refusal, place, held),
-        Failure::BadEvent(place) => Transcript {
-            ending: Ending::BadEvent(place),
-            held,
-        },
         Failure::NoRoomForTape(place) => Transcript {
             ending: Ending::NoRoomForTape(place),
             held,

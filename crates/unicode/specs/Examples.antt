@@ -4,7 +4,8 @@ use mathlib.Core.Path.{_≡_, refl}
 use mathlib.Core.List.{List, [], _∷_}
 use Prim.Native.Nat.{ℕ}
 use lib.Dec.{eqb}
-use Rattle.unicode.specs.Unicode.{isScalar, allScalar, utf8Of, utf8, utf16Of, utf16, within, table, rowOf, wellFormed, isUtf8, scalarsFrom, scalars8, isHigh, isLow, paired, scalars16, unitsOf, unitBytes, isEven, isUtf16, toUtf8, toUtf16}
+use Rattle.unicode.specs.Computed.{computed}
+use Rattle.unicode.specs.Unicode.{allScalar, utf8, utf16, isUtf8, scalars8, scalars16, unitBytes, isUtf16, toUtf8, toUtf16}
 
 -- a text's scalar values, its bytes in UTF-8, and its units in UTF-16
 pub record Example : Type 0 where
@@ -79,13 +80,13 @@ none ok [] = true
 none ok (s ∷ ss) = not (ok s) && none ok ss
 
 pub examples-right : allRight examples ≡ true
-unfolding examples same right allRight isScalar allScalar utf8Of utf8 utf16Of utf16 within table rowOf wellFormed isUtf8 scalarsFrom scalars8 isHigh isLow paired scalars16 unitsOf unitBytes isEven isUtf16 toUtf8 toUtf16
+unfolding computed examples same right allRight
 examples-right = refl
 
 pub not-utf8-refused : none isUtf8 notUtf8 ≡ true
-unfolding notUtf8 none within table rowOf wellFormed isUtf8
+unfolding computed notUtf8 none
 not-utf8-refused = refl
 
 pub not-utf16-refused : none isUtf16 notUtf16 ≡ true
-unfolding notUtf16 none isHigh isLow paired unitsOf isEven isUtf16
+unfolding computed notUtf16 none
 not-utf16-refused = refl

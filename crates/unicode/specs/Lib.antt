@@ -18,3 +18,4 @@ pub mod ChangedAnswers
 pub mod ToUtf16
 pub mod ToUtf16Walk
 pub mod ChangeLaws
+pub mod Computed

@@ -2,5 +2,6 @@
 pub mod changed;
 mod plain;
 pub mod to_utf16;
+pub mod unchecked;
 pub mod utf16;
 pub mod utf8;

@@ -1,8 +1,8 @@
 // UTF-8 changed to UTF-16 of big-endian byte pairs: measured, then written.
 use crate::changed::Changed;
+use crate::unchecked;
 use crate::utf8::walk_utf8;
 ghost use mathlib.Core.Path.{_≡_};
-ghost use mathlib.Core.Bool.{true};
 ghost use mathlib.Core.List.{[], _∷_};
 ghost use Prim.Native.Nat.{_+_, _-_, _*_, _/_, _%_, _≤_, _<_};
 ghost use lib.Dec.{ltb};
@@ -25,27 +25,13 @@ pub fn utf16_units(s: &[u8]) -> Units
     ensures { λ r. ⌜ r ≡ utf16UnitsOf (now (s .entry)) ⌝ }
 {
     if walk_utf8(s, 0) {
-        return Units::Count(units_in(s));
+        return Units::Count(unchecked::units_in(s));
     }
     Units::NotUtf8
 }
 
-// How many units the bytes of a text add, each by itself: a first byte one or two, a later byte none. Of bytes that are no text it is a
-// sum that means nothing. A sum over 64 bytes fits a byte, so that the compiler adds many at once.
-pub fn units_in(s: &[u8]) -> usize
-    ensures { λ r. ⌜ r ≡ unitsIn (now (s .entry)) ⌝ }
-{
-    let mut count: usize = 0;
-    let mut i: usize = 0;
-    while 64 <= s.len() - i {
-        count += few_units(&s[i..i + 64]) as usize;
-        i += 64;
-    }
-    count + few_units(&s[i..]) as usize
-}
-
-// The same of at most 64 bytes.
-fn few_units(part: &[u8]) -> u8
+// The units of at most 64 bytes, as `unchecked::units_in` counts them.
+pub(crate) fn few_units(part: &[u8]) -> u8
     requires { ⌜ length (now part) ≤ 64 ⌝ }
     ensures { λ r. ⌜ r ≡ unitsIn (now (part .entry)) ⌝ }
 {
@@ -64,25 +50,13 @@ pub fn utf8_to_utf16(s: &[u8], out: &mut [u8]) -> Changed
     ensures { λ _. ⌜ now (out .exit) ≡ changedTo (isUtf8 (now (s .entry))) (toUtf16 (now (s .entry))) (now (out .entry)) ⌝ }
 {
     if walk_utf8(s, 0) {
-        return utf8_to_utf16_unchecked(s, out);
+        return unchecked::utf8_to_utf16(s, out);
     }
     Changed::NotText
 }
 
-// The same without a look at whether it is a text, for a caller that has checked it. Bytes that are no text become what the definition
-// makes of them. A refusal changes nothing.
-pub fn utf8_to_utf16_unchecked(s: &[u8], out: &mut [u8]) -> Changed
-    ensures { λ r. ⌜ r ≡ changedOf true (toUtf16 (now (s .entry))) (now (out .entry)) ⌝ }
-    ensures { λ _. ⌜ now (out .exit) ≡ changedTo true (toUtf16 (now (s .entry))) (now (out .entry)) ⌝ }
-{
-    if lacks_units(s, out.len() / 2) {
-        return Changed::NoRoom;
-    }
-    Changed::Written(write_utf16(s, out))
-}
-
 // Whether there are more units than there is room for. No byte gives more than one, so they are counted only where the bytes are more.
-fn lacks_units(s: &[u8], room: usize) -> bool
+pub(crate) fn lacks_units(s: &[u8], room: usize) -> bool
     ensures { λ r. ⌜ r ≡ ltb room (length (utf16 (scalars8 (now (s .entry))))) ⌝ }
 {
     room < s.len() && room < count_units(s)
@@ -96,7 +70,7 @@ fn units_from(b: u8) -> u8
 
 // The units of each value in turn, where there is room for all, and the place after them. Bytes that end inside a sequence give nothing for
 // it. Two bytes have a way of their own: they are one unit, which is stored without a test.
-fn write_utf16(s: &[u8], out: &mut [u8]) -> usize
+pub(crate) fn write_utf16(s: &[u8], out: &mut [u8]) -> usize
     requires { ⌜ length (toUtf16 (now s)) ≤ length (now out) ⌝ }
     ensures { λ r. ⌜ r ≡ length (toUtf16 (now (s .entry))) ⌝ }
     ensures { λ _. ⌜ now (out .exit) ≡ sets (now (out .entry)) 0 (toUtf16 (now (s .entry))) ⌝ }

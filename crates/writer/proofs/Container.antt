@@ -7,6 +7,7 @@ use native.Mathlib.Numerals.{add-one}
 use native.Mathlib.Omega.{arith}
 use lib.ListN.{length, getD, set, drop, length-map}
 use Rattle.event.specs.Format.{maxOpen}
+use Rattle.tape.specs.Events.{startAt}
 use Rattle.written.specs.Encoding.{objectBytes, list, pairs}
 use Rattle.written.specs.File.{bytesAt}
 use Rattle.written.specs.Graph.{Kind, arr, dic, Piece, start, Name, box, same, order, number, kids, evens, odds}
@@ -18,7 +19,7 @@ use Rattle.written.specs.ShapeLaws.{in-pairs, pairs-length}
 use Rattle.written.specs.Weigh.{repOf}
 use Rattle.writer.specs.IndexedLaws.{path-members, path-keys, path-values}
 use Rattle.writer.specs.Marks.{Path}
-use Rattle.writer.specs.Ready.{piecesIn, startAt}
+use Rattle.writer.specs.Ready.{piecesIn}
 use Rattle.writer.specs.ReadyLaws.{start-lt, start-le, kind-arr, kind-dic}
 use Rattle.writer.specs.Speak.{saidAt, endOf, Stand, Grown, Spoke, Named, Keys, Told, Refs, Listed, Paired, Wrote}
 use Rattle.writer.specs.SpeakLaws.{place-inside, stand-new, grown-new, grown-join, end-le, array-bytes, dictionary-bytes, refs-are, members-named, keys-named, spoken-fits, container-new, at-array, at-dictionary, container-named}

@@ -4,9 +4,11 @@ use mathlib.Core.Path.{_≡_, sym, ap, _∙_}
 use Prim.Native.Nat.{ℕ, suc, _+_, _*_, _^_, _≤_, _<_}
 use native.Mathlib.Omega.{arith}
 use lib.ListN.{length, getD, set}
+use Rattle.tape.specs.Events.{startAt}
 use Rattle.encode.specs.Put.{bytesAt as bytesOn}
 use Rattle.encode.specs.ScalarLaws.{scalar-there}
 use Rattle.written.specs.Encoding.{scalarBytes}
+use Rattle.written.specs.EncodingLaws.{scalar-pos}
 use Rattle.written.specs.File.{bytesAt}
 use Rattle.written.specs.Graph.{Scalar, scalar, Name, val, same, number}
 use Rattle.written.specs.Nub.{nubOnto}
@@ -14,7 +16,7 @@ use Rattle.written.specs.RepLaws.{rep-le, rep-same}
 use Rattle.written.specs.Scalar.{unitsFor}
 use Rattle.written.specs.Weigh.{repOf}
 use Rattle.writer.specs.ColumnsLaws.{indexed-set}
-use Rattle.writer.specs.Ready.{piecesIn, startAt}
+use Rattle.writer.specs.Ready.{piecesIn}
 use Rattle.writer.specs.ReadyLaws.{drop-piece, scalar-at}
 use Rattle.writer.specs.Speak.{First, Single, Grown, Wrote}
 use Rattle.writer.specs.SpeakLaws.{end-le, place-inside, single-seen, single-new, single-room, scalar-bytes}
@@ -30,6 +32,11 @@ module _ {t w out : List ℕ} {n r pos : ℕ} {s : Scalar} (o : First t w out n 
       let p = f ∙ o .indexed .off r first-in in
       let u = g ∙ o .indexed .units r s (o .behind) (omega arith) (o .stands) (o .first) ∙ ap unitsFor (a .means) in
       rw (p, u) (scalar-there t (startAt t r) m (startAt t (suc r)) (a .here .reads) (a .lone) (o .ready .bytes) ∙ sym (scalar-bytes (piecesIn t) s ∙ ap scalarBytes (a .means)))
+
+  pub first-some : 0 < length (bytesAt (piecesIn t) (val s))
+  first-some =
+      let (m, a) = scalar-at (o .ready) r s (o .behind) (o .stands) in
+      rw (scalar-bytes (piecesIn t) s, a .means) (scalar-pos m (a .lone))
 
 module _ {t w out : List ℕ} {n e pos : ℕ} {kept : List Name} {s : Scalar} (o : Single t w out n e pos kept s) where
   pub once-in : e < n

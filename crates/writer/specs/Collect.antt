@@ -5,11 +5,12 @@ use mathlib.Core.Path.{_≡_}
 use Prim.Native.Nat.{ℕ, suc, _+_, _*_, _≤_, _<_}
 use lib.Dec.{ltb, eqb}
 use lib.ListN.{length, getD, drop}
+use Rattle.tape.specs.Events.{startAt}
 use Rattle.written.specs.Graph.{Piece}
 use Rattle.written.specs.Shape.{nameOf}
 use Rattle.written.specs.Weigh.{repOf}
 use Rattle.writer.specs.Index.{Index}
-use Rattle.writer.specs.Ready.{Ready, piecesIn, startAt}
+use Rattle.writer.specs.Ready.{Ready, piecesIn}
 
 -- r is the first event with the name of event e
 abbrev pub FirstOf : List ℕ → ℕ → ℕ → Type 0

@@ -13,6 +13,7 @@ use Rattle.event.specs.Format.{maxLength}
 use Rattle.event.specs.Meaning.{Meaning}
 use Rattle.tape.specs.End.{endOf}
 use Rattle.tape.specs.EndLaws.{end-reads}
+use Rattle.tape.specs.Events.{startAt}
 use Rattle.tape.specs.declared.end.End.{End}
 use Rattle.tape.specs.declared.end.End.the-variants.{At, NoEvent}
 use Rattle.tape.specs.Item.{readAt, event}
@@ -27,7 +28,7 @@ use Rattle.writer.specs.ColumnsLaws.{word-set, collected-none, collected
 use Rattle.writer.specs.Find.{Sought, Entered}
 use Rattle.writer.specs.Index.{Index}
 use Rattle.writer.specs.IndexLaws.{index-none, index-same, index-past}
-use Rattle.writer.specs.Ready.{Ready, piecesIn, startAt}
+use Rattle.writer.specs.Ready.{Ready, piecesIn}
 use Rattle.writer.specs.ReadyLaws.{HasKind, kindAt, event-at, kind-at, kind-scalar, scalar-at, piece-at, ready-small}
 
 -- the place after an event is where it ends

@@ -4,11 +4,12 @@ use mathlib.Core.Path.{_≡_}
 use Prim.Native.Nat.{ℕ, suc, _+_, _-_, _*_, _≤_, _<_}
 use lib.ListN.{length, getD, drop, replicate}
 use lib.Seq.{sets}
+use Rattle.tape.specs.Events.{startAt}
 use Rattle.written.specs.Graph.{Kind, Piece, scalar, start, end, Scalar, kids, meant}
 use Rattle.written.specs.Scalar.{unitsFor}
 use Rattle.written.specs.Shape.{nameOf, nextAt}
 use Rattle.written.specs.Weigh.{repOf}
-use Rattle.writer.specs.Ready.{piecesIn, startAt}
+use Rattle.writer.specs.Ready.{piecesIn}
 
 -- the words from one place up to another are 0
 unfoldable pub cleared : List ℕ → ℕ → ℕ → List ℕ

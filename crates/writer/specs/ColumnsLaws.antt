@@ -8,11 +8,12 @@ use borrow.Author.Tests.{eqb-true, eqb-false}
 use lib.Dec.{eqb}
 use lib.ListN.{length, getD, set, drop, length-set}
 use lib.Seq.{getD-set-same, getD-set-other}
+use Rattle.tape.specs.Events.{startAt}
 use Rattle.written.specs.Graph.{Piece, scalar, start}
 use Rattle.written.specs.Shape.{nameOf}
 use Rattle.written.specs.Weigh.{repOf}
 use Rattle.writer.specs.Columns.{aloneIn, Collected, Measured, Indexed}
-use Rattle.writer.specs.Ready.{Ready, piecesIn, startAt}
+use Rattle.writer.specs.Ready.{Ready, piecesIn}
 use Rattle.writer.specs.ReadyLaws.{drop-piece}
 
 -- what stands at j once word k is set

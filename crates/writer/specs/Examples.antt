@@ -4,28 +4,11 @@ use mathlib.Core.List.{List, [], _∷_, _++_}
 use mathlib.Core.Path.{_≡_, refl}
 use Prim.Native.Nat.{ℕ}
 use lib.ListN.{replicate}
-use Rattle.event.specs.Format.{magic}
-use Rattle.event.specs.Meaning.{meaningOf, valueOf, givenOf}
-use Rattle.number.specs.Be.{be, onto as digit, bytesOf}
-use Rattle.number.specs.Size.{needed, rounded, sizeOf}
-use Rattle.tape.specs.Code.{bytesFor}
-use Rattle.tape.specs.Events.{before, eventsFrom, eventsOf}
-use Rattle.tape.specs.Item.{plain, bytesAt as partAt, numbered, textIn, ofKind, itemAt, meaningIn as meaningAt, readingOf, readAt}
-use Rattle.tape.specs.Seven.{groups, seven}
-use Rattle.tape.specs.Value.{onto, numberFrom, numberAt}
-use Rattle.unicode.specs.Unicode.{isAscii, isUtf8, wellFormed, rowOf, table as rows, within}
-use Rattle.grammar.specs.Check.{moveOf, finishOf, checkFrom, checkOf}
-use Rattle.grammar.specs.Said.{numberOf, kindsOf, refusedAt}
-use Rattle.grammar.specs.Turn.{isNothing, afterOf, unexpectedOf, unlessKey, endTurn, textTurn, turnOf, stoppedAt, turnBy, turnAt}
 use Rattle.grammar.specs.declared.answer.EventKind.the-variants.{DictionaryKeyOrEndCollection, Integer}
-use Rattle.written.specs.Encoding.{sizeMarker, numberBytes, integerBytes, nibbleOf, headBytes, textBytes, scalarBytes, numbersBytes, objectBytes, trailerBytes}
-use Rattle.written.specs.File.{flat, ahead, refSize, bytesAt, body, placeOf, tableAt, offsetSize, table, fileOf, fileFor}
-use Rattle.written.specs.Graph.{pieceOf, sameBytes, same, kids, evens, laid, names, order, number, meaningIn, meant, bodyOf, objectOf, spoken, emission}
-use Rattle.written.specs.Nub.{has, nub, nubOnto, indexOf}
-use Rattle.writer.specs.Ready.{meantBy, meaningsIn}
-use Rattle.writer.specs.Write.{long, refused, wordsFor, fittedOf, byCheck, writeOf, outputBy, outputOf, usedBy, usedOf}
+use Rattle.writer.specs.Computed.{computed}
+use Rattle.writer.specs.Write.{long, refused, writeOf, outputOf, usedOf}
 
--- document 01's P10, [1, "a", 1], with a given length: five events, a file of 51 bytes
+-- P10 of docs/FORMAT.md, [1, "a", 1], with a given length: five events, a file of 51 bytes
 abbrev tape : List ℕ
 tape = 0x0B ∷ 0x03 ∷ 0x03 ∷ 0x01 ∷ 0x09 ∷ 0x01 ∷ 0x61 ∷ 0x03 ∷ 0x01 ∷ 0x0E ∷ []
 
@@ -42,7 +25,7 @@ pub answers :
     (writeOf tape 39 50 ≡ refused 24 [] 0) ×
     -- a tape that is none is refused first: {1 ..
     (writeOf (0x0C ∷ 0x03 ∷ 0x01 ∷ []) 0 0 ≡ refused 21 (DictionaryKeyOrEndCollection ∷ Integer ∷ []) 1)
-unfolding writeOf byCheck wordsFor fittedOf meaningsIn meantBy eventsOf eventsFrom before checkOf checkFrom finishOf moveOf refusedAt numberOf kindsOf isNothing afterOf unexpectedOf unlessKey endTurn textTurn turnOf stoppedAt turnBy turnAt fileFor fileOf magic body table tableAt offsetSize placeOf bytesAt refSize flat ahead pieceOf order number emission spoken names laid kids evens bodyOf objectOf meant meaningIn same sameBytes nub nubOnto has indexOf objectBytes scalarBytes textBytes headBytes nibbleOf integerBytes numberBytes numbersBytes sizeMarker trailerBytes bytesOf sizeOf rounded needed isAscii bytesFor seven groups readAt readingOf itemAt ofKind plain partAt numbered textIn meaningAt meaningOf valueOf givenOf numberAt numberFrom onto be digit isUtf8 wellFormed rowOf rows within
+unfolding computed
 answers = (refl, refl, refl, refl, refl)
 
 -- the file stands at the output's start, and what lies behind it stays; a refusal leaves it all; how many words may change
@@ -52,5 +35,5 @@ pub memory :
     (outputOf tape 39 (replicate 53 7) ≡ replicate 53 7) ×
     (usedOf tape 50 ≡ 40) ×
     (usedOf tape 39 ≡ 0)
-unfolding writeOf byCheck wordsFor fittedOf outputBy outputOf usedBy usedOf meaningsIn meantBy eventsOf eventsFrom before checkOf checkFrom finishOf moveOf refusedAt numberOf kindsOf isNothing afterOf unexpectedOf unlessKey endTurn textTurn turnOf stoppedAt turnBy turnAt fileFor fileOf magic body table tableAt offsetSize placeOf bytesAt refSize flat ahead pieceOf order number emission spoken names laid kids evens bodyOf objectOf meant meaningIn same sameBytes nub nubOnto has indexOf objectBytes scalarBytes textBytes headBytes nibbleOf integerBytes numberBytes numbersBytes sizeMarker trailerBytes bytesOf sizeOf rounded needed isAscii bytesFor seven groups readAt readingOf itemAt ofKind plain partAt numbered textIn meaningAt meaningOf valueOf givenOf numberAt numberFrom onto be digit isUtf8 wellFormed rowOf rows within
+unfolding computed
 memory = (refl, refl, refl, refl, refl)

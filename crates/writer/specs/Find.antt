@@ -4,10 +4,11 @@ use mathlib.Core.Path.{_≡_}
 use Prim.Native.Nat.{ℕ, suc, _+_, _-_, _*_, _≤_, _<_}
 use lib.ListN.{length, getD, take, drop}
 use Rattle.event.specs.Format.{maxLength}
+use Rattle.tape.specs.Events.{startAt}
 use Rattle.written.specs.Graph.{Piece, scalar, val}
 use Rattle.written.specs.Weigh.{repOf}
 use Rattle.writer.specs.Index.{slotAt, metAt, topOf, sidesOf, Index}
-use Rattle.writer.specs.Ready.{Ready, piecesIn, startAt}
+use Rattle.writer.specs.Ready.{Ready, piecesIn}
 
 -- what stands on the tape between word i and the next
 abbrev pub between : List ℕ → List ℕ → ℕ → List ℕ

@@ -7,6 +7,7 @@ pub mod Collect
 pub mod CollectLaws
 pub mod Columns
 pub mod ColumnsLaws
+pub mod Computed
 pub mod Examples
 pub mod Find
 pub mod FindLaws

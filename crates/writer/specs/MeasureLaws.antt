@@ -9,6 +9,7 @@ use lib.ListN.{length, take, drop, drop-of-length-le, length-append, length-drop
 use lib.Seq.{length-take-le}
 use Rattle.event.specs.Meaning.{Meaning, array, dictionary, close, boolean, bytes, date, integer, real, text, uid}
 use Rattle.tape.specs.Code.{bytesFor, allowed}
+use Rattle.tape.specs.Events.{startAt}
 use Rattle.unicode.specs.ToUtf16Walk.{counted}
 use Rattle.unicode.specs.Unicode.{isAscii, utf16, scalars8}
 use Rattle.written.specs.CountLaws.{sum}
@@ -20,7 +21,7 @@ use Rattle.written.specs.Scalar.{unitsFor}
 use Rattle.written.specs.Weigh.{repOf, counted as lengthOf, weightOf, weightFrom, membersOf, membersFrom}
 use Rattle.writer.specs.Columns.{Collected, Measured}
 use Rattle.writer.specs.Measure.{Weighs, Summed}
-use Rattle.writer.specs.Ready.{piecesIn, startAt, Ready}
+use Rattle.writer.specs.Ready.{piecesIn, Ready}
 use Rattle.writer.specs.ReadyLaws.{EventAt, event-at, scalar-at, piece-at, drop-piece, ready-count, start-le}
 
 -- an event is the member of one container at most

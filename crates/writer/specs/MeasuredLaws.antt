@@ -10,9 +10,12 @@ use lib.Dec.{eqb}
 use lib.ListN.{length, getD, set, drop, length-set}
 use lib.Seq.{getD-set-same, getD-set-other}
 use Rattle.event.specs.Format.{maxOpen}
+use Rattle.event.specs.Meaning.{Meaning}
+use Rattle.tape.specs.Events.{startAt}
 use Rattle.encode.specs.Size.{headSize, sizeAt}
 use Rattle.encode.specs.SizeLaws.{length-head, size-scalar}
 use Rattle.encode.specs.declared.size.Size.{Size}
+use Rattle.encode.specs.declared.size.Sized.the-variants.{Found, NoScalar}
 use Rattle.written.specs.Encoding.{scalarBytes}
 use Rattle.written.specs.Graph.{Scalar, Kind, arr, dic, Piece, scalar, start, end, val, kids, meant}
 use Rattle.written.specs.NameLaws.{scalar-start, end-start}
@@ -23,7 +26,7 @@ use Rattle.written.specs.Weigh.{repOf, counted, weightOf, membersOf}
 use Rattle.writer.specs.Columns.{aloneIn, Measured}
 use Rattle.writer.specs.Measure.{Weighs, Passed}
 use Rattle.writer.specs.MeasureLaws.{units-le, long-is}
-use Rattle.writer.specs.Ready.{piecesIn, startAt, Ready}
+use Rattle.writer.specs.Ready.{piecesIn, Ready}
 use Rattle.writer.specs.ReadyLaws.{piece-at, scalar-at, drop-piece, ready-count, kindAt, array-at, dictionary-at}
 
 -- from e on
@@ -150,20 +153,32 @@ module _ {t : List ℕ} {n : ℕ} (o : Ready t n) where
       )
 
       -- the first with its bytes is sized
-      size-is : (size : Size) → size ≡ sizeAt t (getD w e 0) → (size .bytes ≡ length (scalarBytes (meant s))) × (size .units ≡ unitsFor (meant s))
-      size-is size f =
+      sized : (k : Meaning) × (sizeAt t (getD w e 0) ≡ Found (record { bytes = length (scalarBytes k); units = unitsFor k })) × (meant s ≡ k)
+      sized =
           let (k, a) = scalar-at o e s r d in
-          let g : size ≡ record { bytes = length (scalarBytes k); units = unitsFor k } =
-          f ∙ ap (sizeAt t) (m .off e h) ∙ size-scalar t (startAt t e) (startAt t (suc e)) k (o .bytes) (a .here .reads) (a .lone) in
-          rw (a .means) (ap (λ (x : Size). x .bytes) g, ap (λ (x : Size). x .units) g)
+          (k, ap (sizeAt t) (m .off e h) ∙ size-scalar t (startAt t e) (startAt t (suc e)) k (o .bytes) (a .here .reads) (a .lone), a .means)
 
-      pub units-small : (size : Size) → size ≡ sizeAt t (getD w e 0) → size .units < 2 ^ 32
+      pub always-sized : NoScalar ≡ sizeAt t (getD w e 0) → ⊥
+      always-sized f =
+          let (k, g, means) = sized in
+          let y = f ∙ g in
+          let z : _≡_ {A = ℕ} 0 1 = cc in
+          omega arith
+
+      size-is : (size : Size) → Found size ≡ sizeAt t (getD w e 0) → (size .bytes ≡ length (scalarBytes (meant s))) × (size .units ≡ unitsFor (meant s))
+      size-is size f =
+          let (k, g, means) = sized in
+          let y = f ∙ g in
+          let z : size ≡ record { bytes = length (scalarBytes k); units = unitsFor k } = cc in
+          rw means (ap (λ (x : Size). x .bytes) z, ap (λ (x : Size). x .units) z)
+
+      pub units-small : (size : Size) → Found size ≡ sizeAt t (getD w e 0) → size .units < 2 ^ 32
       units-small size f =
           let (k, a) = scalar-at o e s r d in
           let g : size .units ≡ unitsFor k = rw (a .means) at (size-is size f .1) in
           omega (arith, g, units-le k (a .here .held .1), long-is o e k (a .here), a .here .within, o .short)
 
-      pub first-measured : getD w (n + e) 0 ≡ e → (size : Size) → size ≡ sizeAt t (getD w e 0) → Measured t (set w (n * 3 + e) (size .units)) n e × Weighs t e (size .bytes) 0
+      pub first-measured : getD w (n + e) 0 ≡ e → (size : Size) → Found size ≡ sizeAt t (getD w e 0) → Measured t (set w (n * 3 + e) (size .units)) n e × Weighs t e (size .bytes) 0
       unfolding weightOf membersOf
       first-measured a size f =
           let u = size .units in

@@ -13,14 +13,14 @@ use Rattle.event.specs.Format.{maxLength}
 use Rattle.event.specs.Meaning.{Meaning, array, dictionary, close, boolean, bytes, date, integer, real, text, uid}
 use Rattle.tape.specs.Code.{bytesFor, OnTape}
 use Rattle.tape.specs.CodeLaws.{reads-back, bytes-some}
-use Rattle.tape.specs.Events.{tapeOf}
-use Rattle.tape.specs.EventsLaws.{AllOnTape, whole-is, tape-append}
+use Rattle.tape.specs.Events.{tapeOf, meaningsIn, startAt}
+use Rattle.tape.specs.EventsLaws.{AllOnTape, whole-is, tape-append, tape-long}
 use Rattle.tape.specs.Item.{event, readAt}
 use Rattle.tape.specs.SameLaws.{item-bytes, item-within}
 use Rattle.written.specs.Graph.{Scalar, Kind, arr, dic, Piece, scalar, start, end, pieceOf, meaningIn, meant}
 use Rattle.written.specs.NameLaws.{drop-lt}
 use Rattle.written.specs.Scalar.{IsScalar}
-use Rattle.writer.specs.Ready.{meaningsIn, piecesIn, startAt, Ready}
+use Rattle.writer.specs.Ready.{piecesIn, Ready}
 
 -- lists
 drop-map : (i : ℕ) (ms : List Meaning) → drop i (map pieceOf ms) ≡ map pieceOf (drop i ms)
@@ -33,11 +33,6 @@ held-at [] zero m q h e = let z : _≡_ {A = ℕ} 0 1 = cc in absurd (omega arit
 held-at [] (suc i) m q h e = let z : _≡_ {A = ℕ} 0 1 = cc in absurd (omega arith)
 held-at (x ∷ ms) zero m q h e = rw (← head-eq-of-cons-eq e) (h .0)
 held-at (x ∷ ms) (suc i) m q h e = held-at ms i m q (h .1) e
-
-tape-few : (ms : List Meaning) → length ms ≤ length (tapeOf ms)
-unfolding tapeOf
-tape-few [] = omega arith
-tape-few (m ∷ ms) = simp length-append (omega (arith, bytes-some m, tape-few ms))
 
 -- an event in its place on the tape
 module _ (t : List ℕ) (ms : List Meaning) (is : t ≡ tapeOf ms) (i : ℕ) (m : Meaning) (h : i < length ms) (e : drop i ms ≡ m ∷ drop (suc i) ms) where
@@ -152,7 +147,7 @@ module _ {t : List ℕ} {n : ℕ} (r : Ready t n) where
 
   -- each event has a byte
   pub ready-few : n ≤ length t
-  ready-few = omega (arith, r .count, tape-few (meaningsIn t), ap length ready-tape)
+  ready-few = omega (arith, r .count, tape-long (meaningsIn t), ap length ready-tape)
 
   pub ready-small : n ≤ maxLength
   ready-small = omega (arith, ready-few, r .short)

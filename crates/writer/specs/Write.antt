@@ -6,12 +6,12 @@ use lib.Dec.{ltb}
 use lib.ListN.{length}
 use lib.Seq.{sets}
 use Rattle.event.specs.Format.{maxLength}
+use Rattle.tape.specs.Events.{meaningsIn}
 use Rattle.grammar.specs.Check.{checkOf}
 use Rattle.grammar.specs.Said.{numberOf, kindsOf}
 use Rattle.grammar.specs.Said as check
 use Rattle.grammar.specs.declared.answer.EventKind.{EventKind}
 use Rattle.written.specs.File.{fileFor}
-use Rattle.writer.specs.Ready.{meaningsIn}
 use Rattle.writer.specs.declared.answer.Written.{Written}
 use Rattle.writer.specs.declared.answer.Written.the-variants.{Length, Refused, NoRoomForWork, NoRoomForOutput, FileTooLong}
 

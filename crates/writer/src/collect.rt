@@ -3,17 +3,18 @@ use crate::find::find;
 use crate::words::clear;
 use crate::words::set_word;
 use tape::end::End;
-use tape::end::end_of;
+use tape::unchecked;
 ghost use mathlib.Core.Path.{_≡_};
 ghost use Prim.Native.Nat.{ℕ, suc, _*_, _^_, _<_};
 ghost use lib.ListN.{length};
 ghost use Rattle.event.specs.Meaning.{Meaning};
+ghost use Rattle.tape.specs.Events.{startAt};
 ghost use Rattle.tape.specs.Item.{readAt, event};
 ghost use Rattle.writer.specs.Collect.{FirstOf, aloneBy, Turn};
 ghost use Rattle.writer.specs.Columns.{Collected};
 ghost use Rattle.writer.specs.Find.{Entered};
 ghost use Rattle.writer.specs.Index.{Index};
-ghost use Rattle.writer.specs.Ready.{Ready, startAt};
+ghost use Rattle.writer.specs.Ready.{Ready};
 
 pub(crate) fn collect(tape: &[u8], work: &mut [u32], n: usize)
     requires { ⌜ Ready (now tape) n × (length (now work) ≡ n * 8) ⌝ }
@@ -46,7 +47,7 @@ fn collect_event(tape: &[u8], work: &mut [u32], n: usize, e: usize, at: usize) -
 fn place_after(tape: &[u8], at: usize) -> usize
     ensures { λ r. ⌜ ((m : Meaning) (next : ℕ) → readAt (now (tape .entry)) at ≡ event m next → r ≡ next) ⌝ }
 {
-    let End::At(end) = end_of(tape, at) else {
+    let End::At(end) = unchecked::end_of(tape, at) else {
         return tape.len();
     };
     end

@@ -1,8 +1,9 @@
 // NEXT and LEN of containers, LEN of texts; and how many bytes all objects take.
 use crate::words::set_word;
 use crate::words::word;
+use encode::size::Sized;
 use encode::size::head_size;
-use encode::size::size_of;
+use encode::unchecked;
 ghost use mathlib.Core.List.{List, _∷_};
 ghost use mathlib.Core.Path.{_≡_};
 ghost use Prim.Native.Nat.{suc, _<_, _≤_, _/_};
@@ -67,7 +68,12 @@ fn measure_scalar(tape: &[u8], work: &mut [u32], n: usize, e: usize) -> Sums
             members: 0,
         };
     }
-    let size = size_of(tape, word(work, e));
+    let Sized::Found(size) = unchecked::size_of(tape, word(work, e)) else {
+        return Sums {
+            bytes: 0,
+            members: 0,
+        };
+    };
     set_word(work, n * 3 + e, size.units);
     Sums {
         bytes: size.bytes,

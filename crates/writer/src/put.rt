@@ -3,13 +3,14 @@ use crate::words::clear;
 use crate::words::set_word;
 use crate::words::word;
 use encode::put::Base;
+use encode::put::Put;
 use encode::put::put_head;
 use encode::put::put_number;
-use encode::put::put_scalar;
+use encode::unchecked;
 use number::size::size_for;
 ghost use mathlib.Core.List.{List, [], _∷_};
 ghost use mathlib.Core.Path.{_≡_};
-ghost use Prim.Native.Nat.{ℕ, suc, _+_, _*_, _<_, _≤_};
+ghost use Prim.Native.Nat.{ℕ, suc, _+_, _*_, _^_, _<_, _≤_};
 ghost use lib.ListN.{length, getD, drop, take};
 ghost use lib.Seq.{sets};
 ghost use Rattle.number.specs.Be.{bytesOf};
@@ -19,6 +20,7 @@ ghost use Rattle.written.specs.Graph.{Scalar, Kind, Piece, start, Name, val, sa
 ghost use Rattle.written.specs.Nub.{nubOnto};
 ghost use Rattle.written.specs.Shape.{skip};
 ghost use Rattle.encode.specs.Put.{baseOf};
+ghost use Rattle.encode.specs.declared.put.Put.the-variants.{Bytes};
 ghost use Rattle.writer.specs.Ready.{piecesIn};
 ghost use Rattle.writer.specs.Speak.{Placed, Grown, Spoke, First, Single, Keys, Unsaid, Told, Each, Listed, Paired, Wrote, Planned};
 
@@ -104,7 +106,7 @@ fn put_first(tape: &[u8], work: &[u32], n: usize, r: usize, out: &mut [u8], pos:
 {
     let at = word(work, r);
     let units = word(work, n * 3 + r);
-    pos + put_scalar(tape, at, units, &mut out[pos..])
+    behind(pos, unchecked::put_scalar(tape, at, units, &mut out[pos..]))
 }
 
 // A container; of a dictionary then also the keys that aren't written yet.
@@ -260,7 +262,7 @@ fn put_head_at(out: &mut [u8], pos: usize, base: Base, members: usize) -> usize
     requires { ⌜ pos + length (headBytes (baseOf base) members) ≤ length (now out) ⌝ }
     ensures { λ r. ⌜ Wrote (now (out .entry)) pos (headBytes (baseOf base) members) (now (out .exit)) r ⌝ }
 {
-    pos + put_head(&mut out[pos..], base, members)
+    behind(pos, put_head(&mut out[pos..], base, members))
 }
 
 // A number at a place of the output; answers the place after it.
@@ -268,5 +270,17 @@ fn put_at(out: &mut [u8], pos: usize, size: usize, n: u64) -> usize
     requires { ⌜ pos + size ≤ length (now out) ⌝ }
     ensures { λ r. ⌜ (r ≡ pos + size) × (now (out .exit) ≡ sets (now (out .entry)) pos (bytesOf size n)) ⌝ }
 {
-    pos + put_number(&mut out[pos..], size, n)
+    behind(pos, put_number(&mut out[pos..], size, n))
+}
+
+// The place behind what was put: the passes before this one have found that a scalar stands there, and that there is room.
+fn behind(pos: usize, put: Put) -> usize
+    requires { ⌜ ((n : ℕ) × (put ≡ Bytes n) × (pos + n < 2 ^ 64)) ⌝ }
+    ensures { λ r. ⌜ ((n : ℕ) → put ≡ Bytes n → r ≡ pos + n) ⌝ }
+{
+    match put {
+        Put::Bytes(length) => pos + length,
+        Put::NoRoom => pos,
+        Put::NoScalar => pos,
+    }
 }

@@ -5,23 +5,10 @@ use mathlib.Core.List.{List, [], _∷_, _++_, map}
 use mathlib.Core.Option.{none, some}
 use mathlib.Core.Path.{_≡_, refl}
 use Prim.Native.Nat.{ℕ}
-use lib.Ieee.{nanBits, isNan, ofBits, toBits}
 use lib.IntN.{pos, negsuc}
-use Rattle.event.specs.Format.{magic}
-use Rattle.event.specs.Meaning.{Meaning, array, dictionary, close, boolean, bytes, integer, real, text, uid, meaningOf, valueOf, givenOf}
-use Rattle.event.specs.Real.{realOf, floatBits}
-use Rattle.number.specs.Be.{be, onto as digit, bytesOf}
-use Rattle.number.specs.Signed.{bitsOf}
-use Rattle.number.specs.Size.{needed, rounded, sizeOf}
-use Rattle.tape.specs.Code.{bytesFor}
-use Rattle.tape.specs.Item.{plain, bytesAt as partAt, numbered, negative, dataIn, textIn, ofKind, itemAt, meaningIn as meaningAt, readingOf, readAt}
-use Rattle.tape.specs.Seven.{groups, seven}
-use Rattle.tape.specs.Value.{onto, numberFrom, numberAt, eightAt}
-use Rattle.unicode.specs.Unicode.{isAscii, isUtf8, wellFormed, rowOf, table as rows, within}
-use Rattle.written.specs.Encoding.{sizeMarker, numberBytes, integerBytes, nibbleOf, headBytes, textBytes, scalarBytes, numbersBytes, objectBytes, trailerBytes}
-use Rattle.written.specs.File.{flat, ahead, refSize, bytesAt, body, placeOf, tableAt, offsetSize, table, fileOf, fileFor}
-use Rattle.written.specs.Graph.{pieceOf, sameBytes, same, kids, evens, laid, names, order, number, meaningIn, meant, bodyOf, objectOf, spoken, emission}
-use Rattle.written.specs.Nub.{has, nub, nubOnto, indexOf}
+use Rattle.event.specs.Meaning.{Meaning, array, dictionary, close, boolean, bytes, integer, real, text, uid}
+use Rattle.written.specs.Computed.{computed}
+use Rattle.written.specs.File.{fileFor}
 
 -- the magic, objects and offset table, then the trailer with sizes 1 and 1, the count, root 0 and the table's offset
 abbrev file : List ℕ → ℕ → ℕ → List ℕ
@@ -91,7 +78,7 @@ pub examples :
     -- ["a", the data 61]: two objects
     (fileFor (array none ∷ text (0x61 ∷ []) ∷ bytes (0x61 ∷ []) ∷ close ∷ []) ≡
     file (0xA2 ∷ 0x01 ∷ 0x02 ∷ 0x51 ∷ 0x61 ∷ 0x41 ∷ 0x61 ∷ 0x08 ∷ 0x0B ∷ 0x0D ∷ []) 3 15)
-unfolding fileFor fileOf magic body table tableAt offsetSize placeOf bytesAt refSize flat ahead pieceOf order number emission spoken names laid kids evens bodyOf objectOf meant meaningIn same sameBytes nub nubOnto has indexOf objectBytes scalarBytes textBytes headBytes nibbleOf integerBytes numberBytes numbersBytes sizeMarker trailerBytes bytesOf bitsOf sizeOf rounded needed isAscii bytesFor seven groups readAt readingOf itemAt ofKind plain partAt numbered negative dataIn textIn meaningAt meaningOf valueOf givenOf realOf floatBits nanBits isNan ofBits toBits numberAt numberFrom onto eightAt be digit isUtf8 wellFormed rowOf rows within
+unfolding computed
 examples = (refl, refl, refl, refl, refl, refl, refl, refl, refl, refl)
 
 pub cases-right : map (λ (c : Case). fileFor (c .events)) cases ≡ map (λ (c : Case). c .file) cases

@@ -1,3 +1,4 @@
+pub mod Computed
 pub mod CountLaws
 pub mod EmissionLaws
 pub mod Encoding
@@ -7,6 +8,7 @@ pub mod File
 pub mod FileLaws
 pub mod FirstLaws
 pub mod FlatLaws
+pub mod GivenLaws
 pub mod Graph
 pub mod NameLaws
 pub mod Nub

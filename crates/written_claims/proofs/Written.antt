@@ -3,7 +3,7 @@
 use mathlib.Core.List.{List, map}
 use mathlib.Core.Logic.{_↔_}
 use mathlib.Core.Path.{_≡_, sym, ap, _∙_}
-use Prim.Native.Nat.{ℕ, _≤_, _<_}
+use Prim.Native.Nat.{ℕ}
 use native.Mathlib.Nat.{zero-add}
 use native.Mathlib.Omega.{arith}
 use borrow.Fn.Kinds.{Dens, endedOf, resT}
@@ -13,13 +13,13 @@ use denote.Triple.Clauses.{AtExit}
 use lib.ListN.{length, take, drop}
 use lib.Seq.{sets, sets-eq, take-at, drop-at}
 use Rattle.event.specs.Meaning.{Meaning}
-use Rattle.tape.specs.Events.{tapeOf}
-use Rattle.transcribe.specs.Run.{run}
+use Rattle.event.specs.Unmeasured.{unmeasured}
+use Rattle.tape.specs.Events.{meaningsIn}
+use Rattle.transcribe.specs.Run.{run, ended}
 use Rattle.transcribe.specs.Said.{endSaid}
 use Rattle.transcribe.proofs.transcribe.Kinds as transcribe-kinds
 use Rattle.transcribe.proofs.transcribe.Reads as transcribe-reads
 use Rattle.written.specs.File.{fileFor}
-use Rattle.writer.specs.Ready.{meaningsIn}
 use Rattle.writer.specs.Write.{writtenSaid}
 use Rattle.writer.specs.declared.answer.Written.the-variants.{Length}
 use Rattle.writer.proofs.write_file.Kinds as write-file-kinds
@@ -27,8 +27,8 @@ use Rattle.writer.proofs.write_file.Reads as write-file-reads
 use Rattle.written_claims.specs.Accepted.{Accepted}
 use Rattle.written_claims.specs.Filled.{filled}
 use Rattle.written_claims.specs.Good.{Good, good}
-use Rattle.written_claims.specs.ReadWhole.{scratchNeeded, Holds}
-use Rattle.written_claims.specs.Same.{plainOf, same-file}
+use Rattle.written_claims.specs.Outcome.{Enough, Holds}
+use Rattle.written_claims.specs.Same.{same-file}
 use Rattle.written_claims.specs.Writes.{Writes, accepts}
 
 -- the front of an output is the file of a tape's events, and nothing behind it has changed
@@ -38,7 +38,7 @@ pub record FileIn (tape before after : List ℕ) (k : ℕ) : Type 0 where
   pub behind : drop k after ≡ drop k before
   pub good : Good (take k after) (meaningsIn tape)
 
-file-in : (tape : List ℕ) (words : ℕ) (before after : List ℕ) (k : ℕ) → Writes tape words before k → after ≡ sets before 0 (fileFor (meaningsIn tape)) → FileIn tape before after k
+pub file-in : (tape : List ℕ) (words : ℕ) (before after : List ℕ) (k : ℕ) → Writes tape words before k → after ≡ sets before 0 (fileFor (meaningsIn tape)) → FileIn tape before after k
 file-in tape words before after k w e =
     let f = fileFor (meaningsIn tape) in
     let s = e ∙ rw zero-add at (sets-eq f before 0 (omega (arith, w .within, w .is))) in
@@ -59,7 +59,7 @@ pub write-file-same :
     (κs : Lfts 3) (a : Dens κs write-file-kinds.ps) (x : resT write-file-kinds.r κs .Denot) (e : AtExit (endedOf 3 write-file-kinds.ps write-file-kinds.r) κs)
     (λs : Lfts 3) (b : Dens λs write-file-kinds.ps) (y : resT write-file-kinds.r λs .Denot) (f : AtExit (endedOf 3 write-file-kinds.ps write-file-kinds.r) λs)
     → write-file-reads.Post κs a x e → write-file-reads.Post λs b y f → (k l : ℕ) → x ≡ Length k → y ≡ Length l
-    → (take k (now (e .1 .1 .0)) ≡ take l (now (f .1 .1 .0))) ↔ (map plainOf (meaningsIn (now (a .0))) ≡ map plainOf (meaningsIn (now (b .0))))
+    → (take k (now (e .1 .1 .0)) ≡ take l (now (f .1 .1 .0))) ↔ (map unmeasured (meaningsIn (now (a .0))) ≡ map unmeasured (meaningsIn (now (b .0))))
 write-file-same κs a x e λs b y f p q k l u v =
     let g = write-file-good κs a x e p k u in
     let h = write-file-good λs b y f q l v in
@@ -68,6 +68,6 @@ write-file-same κs a x e λs b y f p q k l u v =
 -- what `transcribe` answers and leaves is what the definition says
 pub transcribe-back : (κs : Lfts 3) (a : Dens κs transcribe-kinds.ps) (x : resT transcribe-kinds.r κs .Denot) (e : AtExit (endedOf 3 transcribe-kinds.ps transcribe-kinds.r) κs)
     → transcribe-reads.Post κs a x e → (ms : List Meaning) → Good (now (a .0)) ms
-    → length ms < a .1 .1 .1 .0 → scratchNeeded ms ≤ length (now (a .1 .0)) → length (tapeOf (filled ms)) ≤ length (now (a .1 .1 .0))
-    → Holds (filled ms) (now (a .1 .1 .0)) (run (endSaid (x .ending)) (x .held) (now (e .1 .1 .0)) (now (e .1 .0)))
-transcribe-back κs a x e p ms g more room fits = rw p (g .whole-back (a .1 .1 .1 .0) (now (a .1 .0)) (now (a .1 .1 .0)) more room fits)
+    → Enough ms (a .1 .1 .1 .0) (length (now (a .1 .0))) (length (now (a .1 .1 .0)))
+    → Holds ended (filled ms) (now (a .1 .1 .0)) (run (endSaid (x .ending)) (x .held) (now (e .1 .1 .0)) (now (e .1 .0)))
+transcribe-back κs a x e p ms g room = rw (p .0) (g .whole-back (a .1 .1 .1 .0) (now (a .1 .0)) (now (a .1 .1 .0)) room)

@@ -1,5 +1,4 @@
 -- What reading gives back is accepted, and written as the same file again.
-use mathlib.Core.Bool.{Bool, true, false}
 use mathlib.Core.List.{List, [], _∷_, map}
 use mathlib.Core.Path.{_≡_, refl, sym, ap, _∙_}
 use Prim.Native.Nat.{ℕ, suc, _/_, _^_, _≤_, _<_}
@@ -10,16 +9,13 @@ use Rattle.event.specs.Meaning.{Meaning, array, dictionary, close, boolean, byt
 use Rattle.tape.specs.Code.{allowed}
 use Rattle.tape.specs.Events.{tapeOf}
 use Rattle.tape.specs.EventsLaws.{AllOnTape, tape-whole}
-use Rattle.grammar.specs.Check.{Move, onto, barred, moveOf, checkOf}
-use Rattle.grammar.specs.Fits.{fitsFrom}
+use Rattle.grammar.specs.Check.{checkOf}
 use Rattle.grammar.specs.FitsLaws.{fits-check}
 use Rattle.grammar.specs.Said.{whole}
-use Rattle.grammar.specs.Turn.{turnOf}
-use Rattle.grammar.specs.declared.turn.Due.{Due}
-use Rattle.grammar.specs.declared.turn.Due.the-variants.{Root}
 use Rattle.written.specs.File.{fileFor}
 use Rattle.written.specs.Graph.{arr, dic, Piece, start, pieceOf, box, kids, evens, number, bodyOf, objectOf}
 use Rattle.written.specs.NameLaws.{drop-next, length-evens}
+use Rattle.writer.specs.CheckLaws.{fits-is}
 use Rattle.written_claims.specs.Accepted.{Accepted, sound}
 use Rattle.written_claims.specs.FileShown.{fine}
 use Rattle.written_claims.specs.Filled.{members, filled}
@@ -69,33 +65,15 @@ accepted-again ms a = record {
   short = rw (written-again ms) (a .short);
 }
 
--- as many events, of which the check says the same
+-- as many events
 pub length-filled : (ms : List Meaning) → length (filled ms) ≡ length ms
 length-filled ms = sym (length-map (filled ms) pieceOf) ∙ ap length (pieces-same ms) ∙ length-map ms pieceOf
 
-after-move : (v : Move) (ms ns : List Meaning) → ((d : Due) (ds : List Due) → fitsFrom d ds ms ≡ fitsFrom d ds ns)
-    → _≡_ {A = Bool} (elim v [ onto d ds ↦ fitsFrom d ds ms | barred r ↦ false ]) (elim v [ onto d ds ↦ fitsFrom d ds ns | barred r ↦ false ])
-after-move (onto d ds) ms ns e = e d ds
-after-move (barred r) ms ns e = refl
-
-pub fits-again : (due : Due) (around : List Due) (ms : List Meaning) → fitsFrom due around (filled ms) ≡ fitsFrom due around ms
-unfolding fitsFrom filled turnOf
-fits-again due around [] = refl
-fits-again due around (array v ∷ ms) = after-move (moveOf (turnOf due (array v)) due around) (filled ms) ms (λ d ds. fits-again d ds ms)
-fits-again due around (dictionary v ∷ ms) = after-move (moveOf (turnOf due (dictionary v)) due around) (filled ms) ms (λ d ds. fits-again d ds ms)
-fits-again due around (close ∷ ms) = after-move (moveOf (turnOf due close) due around) (filled ms) ms (λ d ds. fits-again d ds ms)
-fits-again due around (boolean b ∷ ms) = after-move (moveOf (turnOf due (boolean b)) due around) (filled ms) ms (λ d ds. fits-again d ds ms)
-fits-again due around (bytes s ∷ ms) = after-move (moveOf (turnOf due (bytes s)) due around) (filled ms) ms (λ d ds. fits-again d ds ms)
-fits-again due around (date b ∷ ms) = after-move (moveOf (turnOf due (date b)) due around) (filled ms) ms (λ d ds. fits-again d ds ms)
-fits-again due around (integer z ∷ ms) = after-move (moveOf (turnOf due (integer z)) due around) (filled ms) ms (λ d ds. fits-again d ds ms)
-fits-again due around (real b ∷ ms) = after-move (moveOf (turnOf due (real b)) due around) (filled ms) ms (λ d ds. fits-again d ds ms)
-fits-again due around (text s ∷ ms) = after-move (moveOf (turnOf due (text s)) due around) (filled ms) ms (λ d ds. fits-again d ds ms)
-fits-again due around (uid u ∷ ms) = after-move (moveOf (turnOf due (uid u)) due around) (filled ms) ms (λ d ds. fits-again d ds ms)
-
 -- so the tape of what was read is accepted, if it is not too long
-pub check-again : (ms : List Meaning) → Accepted ms → fitsFrom Root [] ms ≡ true → length (tapeOf (filled ms)) ≤ maxLength → checkOf (tapeOf (filled ms)) ≡ whole (length ms)
-check-again ms a f h =
-    fits-check (tapeOf (filled ms)) (filled ms) h (tape-whole (filled ms) (accepted-again ms a .held)) (fits-again Root [] ms ∙ f) ∙ ap whole (length-filled ms)
+pub check-again : (ms : List Meaning) → Accepted ms → length (tapeOf (filled ms)) ≤ maxLength → checkOf (tapeOf (filled ms)) ≡ whole (length ms)
+check-again ms a h =
+    let b = accepted-again ms a in
+    fits-check (tapeOf (filled ms)) (filled ms) h (tape-whole (filled ms) (b .held)) (fits-is (filled ms) ∙ b .one) ∙ ap whole (length-filled ms)
 
 -- reading what is written again changes nothing more
 pub filled-again : (ms : List Meaning) → filled (filled ms) ≡ filled ms

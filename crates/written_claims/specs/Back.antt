@@ -1,4 +1,4 @@
--- The reader's machine, over a source that shows the objects of some events, answers those events.
+-- A reader whose calls go by a source that shows the objects of some events answers those events.
 use mathlib.Core.Path.{_≡_, refl, sym, ap, _∙_}
 use mathlib.Core.Bool.{Bool, true, false, cond, false≢true}
 use mathlib.Core.List.{List, [], _∷_, map, _++_}
@@ -16,7 +16,10 @@ use Rattle.layout.specs.Looked as looked
 use Rattle.layout.specs.Frame.{newFrame, noFrame, nextIn}
 use Rattle.layout.specs.declared.layout.Due.the-variants.{Close, Member}
 use Rattle.layout.specs.declared.frame.Frame.{Frame}
-use Rattle.reader.specs.Machine.{Said, eventAt, ended, Step, step, arrive, stepOf}
+use Rattle.reader.specs.Calls.{calls, answersOf}
+use Rattle.reader.specs.Machine.{Said, eventAt, ended, step, arrive, stepOf}
+use Rattle.reader.specs.Next.{nextOf}
+use Rattle.reader.specs.NextLaws.{next-ended}
 use Rattle.reader.specs.State.{maxOpen, endedReader, moved}
 use Rattle.written.specs.Graph.{Scalar, Kind, arr, dic, Piece, start, Name, val, box, kids, evens, odds, order, number, bodyOf, objectOf, scalar, end}
 use Rattle.written.specs.NameLaws.{In, drop-lt, drop-next, drop-getD, drop-done, getD-map-lt, length-evens, in-drop, in-turn}
@@ -46,11 +49,6 @@ eventBy all src s = eventIn (src .look (number all (val s)))
 -- all objects of the events are shown
 abbrev pub Shows : List Piece → List ℕ → Source → (Name → ℕ) → Type 0
 Shows all file src placeOf = (x : Name) → In x (order all) → Shown file src (number all x) (placeOf x) (objectOf all x)
-
--- the first m answers of a machine
-unfoldable pub answersOf : (Reader → Step) → ℕ → Reader → List Said
-answersOf next zero r = []
-answersOf next (suc m) r = next r .answer ∷ answersOf next m (next r .state)
 
 module _ (all : List Piece) (file : List ℕ) (src : Source) (placeOf : Name → ℕ) (shows : Shows all file src placeOf) where
   -- a frame: of the container that begins at place; the members l are left
@@ -188,8 +186,8 @@ module _ (all : List Piece) (file : List ℕ) (src : Source) (placeOf : Name →
   pub fresh-frame : (n : ℕ) (k : Kind) (post : List Piece) → drop n all ≡ start k ∷ post → In (box n) (order all) → Parity (inside k) (length (kids 0 (suc n) post)) → Known (suc n) n (kids 0 (suc n) post) (frameFor n k post)
   fresh-frame n k post e h p = record { kind = k; post = post; before = omega arith; begins = e; named = h; obj-is = refl; len-is = refl; even = p; upto = omega arith; rest = refl }
 
-  -- a machine that goes on by stepOf where containers are open, and has ended where none is
-  module _ (base : Reader) (next : Reader → Step) (opened : (q k : ℕ) (fr : List Frame) → suc k ≤ maxOpen → next (frames.inside base q k fr) ≡ stepOf src (frames.inside base q k fr)) (over : next endedReader ≡ step endedReader ended) where
+  -- where containers are open, a call goes on by the source
+  module _ (base : Reader) (opened : (q k : ℕ) (fr : List Frame) → suc k ≤ maxOpen → nextOf file (frames.inside base q k fr) ≡ stepOf src (frames.inside base q k fr)) where
     abbrev by : Scalar → Event
     by = eventBy all src
 
@@ -198,19 +196,19 @@ module _ (all : List Piece) (file : List ℕ) (src : Source) (placeOf : Name →
     stateOf q fr [] = endedReader
     stateOf q fr (p ∷ ps) = frames.inside base q (length ps) fr
 
-    all-ended : (m : ℕ) → answersOf next m endedReader ≡ replicate m ended
-    unfolding answersOf
+    all-ended : (m : ℕ) → answersOf (calls m file endedReader) ≡ replicate m ended
+    unfolding calls
     all-ended zero = refl
-    all-ended (suc m) = rw over (ap (λ (l : List Said). ended ∷ l) (all-ended m))
+    all-ended (suc m) = rw (next-ended file endedReader refl refl) (ap (λ (l : List Said). ended ∷ l) (all-ended m))
 
     -- one step gives an answer and leads on
-    onward : (m : ℕ) (s : Reader) (a : Said) (r : Reader) (l : List Said) → next s ≡ step r a → answersOf next m r ≡ l → answersOf next (suc m) s ≡ a ∷ l
-    unfolding answersOf
+    onward : (m : ℕ) (s : Reader) (a : Said) (r : Reader) (l : List Said) → nextOf file s ≡ step r a → answersOf (calls m file r) ≡ l → answersOf (calls (suc m) file s) ≡ a ∷ l
+    unfolding calls
     onward m s a r l e h = rw (e, h)
 
     simulates : (es : List Piece) (n : ℕ) (cs : List Due) (ps : List ℕ) (fr : List Frame) (q m : ℕ) → drop n all ≡ es → fits maxOpen cs es ≡ true
         → length ps ≡ length cs → length ps ≤ maxOpen → length fr ≡ maxOpen → Frames n (λ (j : ℕ). kids j n es) fr ps
-        → answersOf next (length es + m) (stateOf q fr ps) ≡ saidFrom by placeOf n ps es ++ replicate m ended
+        → answersOf (calls (length es + m) file (stateOf q fr ps)) ≡ saidFrom by placeOf n ps es ++ replicate m ended
     unfolding fits kids saidFrom
     simulates [] n [] [] fr q m d e c few full o = rw zero-add (all-ended m)
     simulates [] n [] (p ∷ ps) fr q m d e c few full o = absurd (omega arith)
@@ -262,19 +260,19 @@ module _ (all : List Piece) (file : List ℕ) (src : Source) (placeOf : Name →
 
 -- THE READ-BACK over any source that shows the objects: the events with their lengths filled in, then ended for ever
 pub read-from : (all : List Piece) (file : List ℕ) (src : Source) (placeOf : Name → ℕ) → Shows all file src placeOf
-    → (base : Reader) (next : Reader → Step) → ((q k : ℕ) (fr : List Frame) → suc k ≤ maxOpen → next (frames.inside base q k fr) ≡ stepOf src (frames.inside base q k fr)) → next endedReader ≡ step endedReader ended
-    → (first : Reader) (q : ℕ) (fr : List Frame) → next first ≡ arrive (moved base q 0 fr) 0 (src .look 0) → length fr ≡ maxOpen
-    → (m : ℕ) → whole maxOpen all ≡ true → answersOf next (length all + m) first ≡ saidFrom (eventBy all src) placeOf 0 [] all ++ replicate m ended
+    → (base : Reader) → ((q k : ℕ) (fr : List Frame) → suc k ≤ maxOpen → nextOf file (frames.inside base q k fr) ≡ stepOf src (frames.inside base q k fr))
+    → (first : Reader) (q : ℕ) (fr : List Frame) → nextOf file first ≡ arrive (moved base q 0 fr) 0 (src .look 0) → length fr ≡ maxOpen
+    → (m : ℕ) → whole maxOpen all ≡ true → answersOf (calls (length all + m) file first) ≡ saidFrom (eventBy all src) placeOf 0 [] all ++ replicate m ended
 unfolding whole fits kids saidFrom
-read-from [] file src placeOf sh base next opened over first q fr begins full m e = absurd (false≢true e)
-read-from (scalar s ∷ []) file src placeOf sh base next opened over first q fr begins full m e =
+read-from [] file src placeOf sh base opened first q fr begins full m e = absurd (false≢true e)
+read-from (scalar s ∷ []) file src placeOf sh base opened first q fr begins full m e =
     let all = scalar s ∷ [] in
     let l : src .look 0 ≡ looked.scalar (eventBy all src s) (placeOf (val s)) = ap (src .look) (sym (root-number all (val s) [] refl)) ∙ look-val all file src placeOf sh s (root-named all (val s) [] refl) in
-    rw suc-add (onward all file src placeOf sh base next opened over (0 + m) first (eventAt (eventBy all src s) (placeOf (val s))) endedReader (replicate m ended)
+    rw suc-add (onward all file src placeOf sh base opened (0 + m) first (eventAt (eventBy all src s) (placeOf (val s))) endedReader (replicate m ended)
     (begins ∙ rw l (frames.root-scalar (moved base q 0 fr) 0 (eventBy all src s) (placeOf (val s)) refl))
-    (rw zero-add (all-ended all file src placeOf sh base next opened over m)))
-read-from (scalar s ∷ (x ∷ es)) file src placeOf sh base next opened over first q fr begins full m e = absurd (false≢true e)
-read-from (start k ∷ es) file src placeOf sh base next opened over first q fr begins full m e =
+    (rw zero-add (all-ended all file src placeOf sh base opened m)))
+read-from (scalar s ∷ (x ∷ es)) file src placeOf sh base opened first q fr begins full m e = absurd (false≢true e)
+read-from (start k ∷ es) file src placeOf sh base opened first q fr begins full m e =
     let all = start k ∷ es in
     let z : number all (box 0) ≡ 0 = root-number all (box 0) (kids 1 1 es) refl in
     let h : In (box 0) (order all) = root-named all (box 0) (kids 1 1 es) refl in
@@ -286,8 +284,8 @@ read-from (start k ∷ es) file src placeOf sh base next opened over first q fr 
     let same : newFrame 0 len ≡ new = ap (λ (i : ℕ). newFrame i len) (sym z) in
     let fr′ : List Frame = set fr 0 new in
     let t : getD fr′ 0 noFrame ≡ new = getD-set-same fr 0 new noFrame (omega arith) in
-    rw suc-add (onward all file src placeOf sh base next opened over (length es + m) first (eventAt (startOf (shapeOf k) (counted k (length (kids 0 1 es)))) (placeOf (box 0))) (frames.inside base (placeOf (box 0)) 0 fr′) (saidFrom (eventBy all src) placeOf 1 (0 ∷ []) es ++ replicate m ended)
+    rw suc-add (onward all file src placeOf sh base opened (length es + m) first (eventAt (startOf (shapeOf k) (counted k (length (kids 0 1 es)))) (placeOf (box 0))) (frames.inside base (placeOf (box 0)) 0 fr′) (saidFrom (eventBy all src) placeOf 1 (0 ∷ []) es ++ replicate m ended)
     (begins ∙ rw l (frames.root-start base q 0 fr (shapeOf k) len (placeOf (box 0))) ∙ ap (λ (f : Frame). step (frames.inside base (placeOf (box 0)) 0 (set fr 0 f)) (eventAt (startOf (shapeOf k) len) (placeOf (box 0)))) same)
-    (simulates all file src placeOf sh base next opened over es 1 (inside k ∷ []) (0 ∷ []) fr′ (placeOf (box 0)) m refl (w .1) refl (lit≤ tt) (length-set fr 0 new ∙ full)
+    (simulates all file src placeOf sh base opened es 1 (inside k ∷ []) (0 ∷ []) fr′ (placeOf (box 0)) m refl (w .1) refl (lit≤ tt) (length-set fr 0 new ∙ full)
     (rw t (fresh-frame all file src placeOf sh 0 k es refl h p), tt)))
-read-from (end ∷ es) file src placeOf sh base next opened over first q fr begins full m e = absurd (false≢true e)
+read-from (end ∷ es) file src placeOf sh base opened first q fr begins full m e = absurd (false≢true e)

@@ -16,10 +16,10 @@ use Rattle.layout.specs.Looked as looked
 use Rattle.layout.specs.Bytes.{noBytes, endAsked, eventAsked, hasBytes}
 use Rattle.layout.specs.FoundLaws.{Lies, made, start-given}
 use Rattle.layout.specs.LookLaws.{standing}
+use Rattle.reader.specs.Calls.{calls, answersOf}
 use Rattle.reader.specs.Machine.{eventAt}
 use Rattle.reader.specs.Machine as machine
 use Rattle.reader.specs.Meanings.{Told, ended, told, answers, meaningAt}
-use Rattle.reader.specs.Next.{nextOf}
 use Rattle.reader.specs.State.{freshReader}
 use Rattle.transcribe.specs.TranscriptLaws.{toldOf}
 use Rattle.written.specs.EmissionLaws.{in-emission, written-numbered}
@@ -28,13 +28,13 @@ use Rattle.written.specs.Graph.{Scalar, Kind, arr, dic, Piece, scalar, start, e
 use Rattle.written.specs.NameLaws.{In, drop-next, in-here, in-there, in-right}
 use Rattle.written.specs.Weigh.{counted}
 use Rattle.written.specs.WholeLaws.{whole-parity}
-use Rattle.written_claims.specs.Back.{answersOf, eventBy, look-box}
+use Rattle.written_claims.specs.Back.{eventBy, look-box}
 use Rattle.written_claims.specs.FileShown.{file-shows}
 use Rattle.written_claims.specs.Filled.{shapeOf, handedFrom, saidFrom, eventIn}
 use Rattle.written_claims.specs.HandsOut.{HandsOut, HandOut}
 use Rattle.written_claims.specs.HandsOutLaws.{hands-out, told-all}
 use Rattle.written_claims.specs.Laid.{layoutOf, trailer}
-use Rattle.written_claims.specs.NextBack.{told-each, told-ended, read-said}
+use Rattle.written_claims.specs.NextBack.{told-ended, read-said}
 use Rattle.written_claims.specs.Writable.{Sound}
 
 -- what the reader's events of containers mean; the file gives them, and they have no bytes
@@ -64,7 +64,7 @@ module _ (es : List Piece) (g : Sound es) where
   by = eventBy es (sourceOf (fileOf es) (layoutOf es))
 
   -- the reader's answers, event by event
-  pub said-back : (m : ℕ) → answersOf (nextOf (fileOf es)) (length es + m) freshReader ≡ saidFrom by (placeOf es) 0 [] es ++ replicate m machine.ended
+  pub said-back : (m : ℕ) → answersOf (calls (length es + m) (fileOf es) freshReader) ≡ saidFrom by (placeOf es) 0 [] es ++ replicate m machine.ended
   said-back m = read-said (fileOf es) (layoutOf es) (g .short) (trailer es (g .short)) es (placeOf es) (file-shows es g) m (g .one)
 
   -- a scalar's event
@@ -120,8 +120,8 @@ module _ (es : List Piece) (g : Sound es) where
   hand-out = hands es 0 [] refl tt (λ x i. written-numbered maxOpen es x (g .one) (in-emission es x i))
 
   pub told-back : (m : ℕ) → answers (length es + m) (fileOf es) freshReader ≡ toldOf (handedFrom (placeOf es) 0 [] es) ++ replicate m ended
+  unfolding answers
   told-back m =
-      told-each (fileOf es) (length es + m) freshReader
-      ∙ ap (map (told (fileOf es))) (said-back m)
+      ap (map (told (fileOf es))) (said-back m)
       ∙ told-ended (fileOf es) m (saidFrom by (placeOf es) 0 [] es)
       ∙ ap (λ (l : List Told). l ++ replicate m ended) (told-all (fileOf es) (handedFrom (placeOf es) 0 [] es) (saidFrom by (placeOf es) 0 [] es) hand-out)

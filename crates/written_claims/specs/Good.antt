@@ -2,7 +2,7 @@
 use mathlib.Core.Bool.{true}
 use mathlib.Core.List.{List, _++_}
 use mathlib.Core.Path.{_≡_}
-use Prim.Native.Nat.{ℕ, _+_, _*_, _≤_, _<_}
+use Prim.Native.Nat.{ℕ, _+_, _*_, _<_}
 use lib.ListN.{length, replicate}
 use Rattle.number.specs.Width.{bytesIn}
 use Rattle.event.specs.Date.{isDate}
@@ -13,12 +13,12 @@ use Rattle.object.specs.Content.{trailerAt}
 use Rattle.layout.specs.FoundLaws.{refsOf}
 use Rattle.layout.specs.Layout.{lookOf}
 use Rattle.layout.specs.Looked.{Shape, scalar, container}
-use Rattle.reader.specs.Meanings.{meaningAt, ended, answers}
+use Rattle.reader.specs.Meanings.{meaningAt, answers}
+use Rattle.reader.specs.Meanings as meanings
 use Rattle.reader.specs.State.{freshReader}
 use Rattle.layout.specs.Trailer.{lays, trailerOf}
 use Rattle.layout.specs.declared.layout.Layout.{Layout}
-use Rattle.tape.specs.Events.{tapeOf}
-use Rattle.transcribe.specs.Run.{transcriptOf}
+use Rattle.transcribe.specs.Run.{ended, transcriptOf}
 use Rattle.transcribe.specs.TranscriptLaws.{Put, toldOf, meaningsOf}
 use Rattle.written.specs.File.{fileFor}
 use Rattle.written_claims.specs.Accepted.{Accepted, layoutFor}
@@ -27,9 +27,9 @@ use Rattle.written_claims.specs.Claims.{LookedUp, EndsBefore}
 use Rattle.written_claims.specs.Claims as claims
 use Rattle.written_claims.specs.Filled.{filled, handedOf}
 use Rattle.written_claims.specs.ReadBack.{means-back, handed-means}
-use Rattle.written_claims.specs.ReadEnds.{tapeNeeded, budgetNeeded, Ending, ends-back}
-use Rattle.written_claims.specs.ReadWhole as back
-use Rattle.written_claims.specs.ReadWhole.{scratchNeeded, Holds}
+use Rattle.written_claims.specs.ReadEnds.{ends-back}
+use Rattle.written_claims.specs.ReadWhole.{whole-back}
+use Rattle.written_claims.specs.Outcome.{Enough, outcomeOf, Holds, ComesTo}
 use Rattle.written_claims.specs.References.{namedBy, allReferences, Names, Reached, mentions}
 
 -- a file whose root is 0, and what reading it gives: the events of ms, lengths filled in
@@ -51,13 +51,11 @@ pub record Good (file : List ℕ) (ms : List Meaning) : Type 0 where
   pub dates : (i : ℕ) → i < layout .count → (b at : ℕ) → lookOf file layout i ≡ scalar (Date b) at → isDate b ≡ true
   -- the answers of a fresh reader: what is put for the events, each with an offset, then the end for ever
   pub put : List Put
-  pub answered : (m : ℕ) → answers (length ms + m) file freshReader ≡ toldOf put ++ replicate m ended
+  pub answered : (m : ℕ) → answers (length ms + m) file freshReader ≡ toldOf put ++ replicate m meanings.ended
   pub means : meaningsOf put ≡ filled ms
-  pub whole-back : (budget : ℕ) (scratch tape : List ℕ) → length ms < budget → scratchNeeded ms ≤ length scratch → length (tapeOf (filled ms)) ≤ length tape
-      → Holds (filled ms) tape (transcriptOf budget file scratch tape)
-  -- and how a reading ends, whatever is lent
-  pub ends-back : (budget : ℕ) (scratch tape : List ℕ)
-      → Ending budget (length scratch) (length tape) (budgetNeeded ms) (scratchNeeded ms) (tapeNeeded ms) (transcriptOf budget file scratch tape .ending)
+  -- with room enough a reading ends with the file and leaves the events on the tape; and how it ends, and what it leaves, whatever is lent
+  pub whole-back : (budget : ℕ) (scratch tape : List ℕ) → Enough ms budget (length scratch) (length tape) → Holds ended (filled ms) tape (transcriptOf budget file scratch tape)
+  pub ends-back : (budget : ℕ) (scratch tape : List ℕ) → ComesTo (outcomeOf budget (length scratch) (length tape) 0 put) tape (transcriptOf budget file scratch tape)
   -- what is read is accepted and written as this file again
   pub again : Accepted (filled ms) × (fileFor (filled ms) ≡ file)
 
@@ -79,7 +77,7 @@ good ms a = record {
   put = handedOf ms;
   answered = means-back ms a;
   means = handed-means ms a;
-  whole-back = back.whole-back ms a;
+  whole-back = whole-back ms a;
   ends-back = ends-back ms a;
   again = (accepted-again ms a, written-again ms);
 }

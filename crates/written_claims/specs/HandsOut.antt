@@ -7,10 +7,11 @@ use lib.ListN.{length}
 use Rattle.event.specs.Meaning.{Meaning, array, dictionary, close, boolean, bytes, date, integer, real, text, uid}
 use Rattle.event.specs.declared.Event.{Event}
 use Rattle.unicode.specs.Unicode.{isAscii}
-use Rattle.layout.specs.Bytes.{Asked, hasBytes}
+use Rattle.layout.specs.Bytes.{hasBytes}
 use Rattle.reader.specs.Machine.{Said, recordOf, eventAt}
 use Rattle.reader.specs.Meanings.{meaningAt}
-use Rattle.reader.specs.Request.{long, refusing, askedOf, lengthSaid, scratchAfter, partSaid}
+use Rattle.reader.specs.Request.{refusing, askedOf, lengthSaid, scratchAfter}
+use Rattle.reader.specs.RequestLaws.{Gives}
 use Rattle.transcribe.specs.TranscriptLaws.{Put}
 
 -- the bytes of data or text
@@ -38,12 +39,6 @@ scratchFor (integer z) = 0
 scratchFor (real b) = 0
 scratchFor (text s) = cond (isAscii s) 0 (length s)
 scratchFor (uid n) = 0
-
--- both calls of the request: the length, and then the bytes; the scratch stays as long as it was
-pub record Gives (file scratch : List ℕ) (at : ℕ) (a : Asked) (content : List ℕ) : Type 0 where
-  pub first : lengthSaid file scratch at a ≡ long (length content)
-  pub second : partSaid file (scratchAfter file scratch a) a ≡ content
-  pub scratch-is : length (scratchAfter file scratch a) ≡ length scratch
 
 -- the request where the scratch is too short: 16 at the event's offset, and the scratch is as it was
 pub record Lacks (file scratch : List ℕ) (e : Event) (at : ℕ) : Type 0 where

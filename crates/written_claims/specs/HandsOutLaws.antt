@@ -1,14 +1,13 @@
 -- An event whose bytes stand in the file as its meaning asks is handed out with them.
-use mathlib.Core.Bool.{true, false, cond, true≢false, false≢true}
-use mathlib.Core.List.{List, [], _∷_, _++_, map}
+use mathlib.Core.Bool.{Bool, true, false, cond, true≢false, false≢true}
+use mathlib.Core.List.{List, [], _∷_, map}
 use mathlib.Core.Logic.{_⊎_, inl, inr}
-use mathlib.Core.Path.{_≡_, refl, sym, ap}
+use mathlib.Core.Path.{_≡_, refl, sym, ap, _∙_}
 use Prim.Native.Nat.{ℕ, _≤_, _<_}
 use native.Mathlib.Omega.{arith}
-use borrow.Author.Tests.{le-leb, lt-leb, le-ltb}
-use lib.ListN.{length, drop, length-append, length-drop}
-use lib.Seq.{take-append-seam}
-use Rattle.event.specs.Meaning.{meaningOf}
+use borrow.Author.Tests.{le-ltb}
+use lib.ListN.{length}
+use Rattle.event.specs.Meaning.{bytes, text, meaningOf}
 use Rattle.event.specs.declared.Event.{Event}
 use Rattle.event.specs.declared.Event.the-variants.{StartArray, StartDictionary, EndCollection, Boolean, Data, Date, Integer, Real, Nan, String, Uid}
 use Rattle.unicode.specs.Unicode.{isAscii, toUtf8}
@@ -16,10 +15,11 @@ use Rattle.number.specs.Part.{part}
 use Rattle.layout.specs.Bytes.{Asked, inFile, inUtf16, noBytes, denied, eventAsked, hasBytes}
 use Rattle.reader.specs.Machine.{Said, eventAt}
 use Rattle.reader.specs.Meanings.{bytesAsked, meaningAt, told}
-use Rattle.reader.specs.Request.{long, refusing, askedOf, lengthSaid, scratchAfter, partSaid}
+use Rattle.reader.specs.Request.{askedOf}
+use Rattle.reader.specs.RequestLaws.{Present, scratchAsked, gives, lacks}
 use Rattle.reader.specs.State.{maxLength}
 use Rattle.transcribe.specs.TranscriptLaws.{Put, toldOf}
-use Rattle.written_claims.specs.HandsOut.{contentOf, scratchFor, Gives, HandsOut, HandOut}
+use Rattle.written_claims.specs.HandsOut.{contentOf, scratchFor, HandsOut, HandOut}
 use Rattle.written_claims.specs.Shown.{Asks}
 
 -- the bytes beside a data or text event are its content
@@ -58,24 +58,6 @@ unfolding hasBytes
 kept-has e P (inl q) = rw q refl
 kept-has e P (inr q) = rw (q .0) refl
 
-module _ (file : List ℕ) (e : Event) (at : ℕ) (scratch : List ℕ) where
-  gives-by : (a : Asked) → Asks file e a → scratchFor (meaningOf e (bytesAsked file a)) ≤ length scratch → Gives file scratch at a (contentOf (meaningOf e (bytesAsked file a)))
-  unfolding bytesAsked lengthSaid scratchAfter partSaid scratchFor meaningOf hasBytes
-  gives-by noBytes d room = rw (content-none e [] d) (record { first = refl; second = refl; scratch-is = refl })
-  gives-by (denied number values) d room = absurd d
-  gives-by (inFile start n) d room = rw (content-is e (part file start n) (kept-has e _ (d .1))) (record { first = ap long (sym (d .0)); second = refl; scratch-is = refl })
-  gives-by (inUtf16 start n) d room =
-      let t = toUtf8 (part file start n) in
-      let h : hasBytes e ≡ true = rw (d .0) refl in
-      let needs : cond (isAscii t) 0 (length t) ≤ length scratch = rw (d .0) at room in
-      let fits : length t ≤ length scratch = rw (d .1) at needs in
-      let l : length (t ++ drop (length t) scratch) ≡ length scratch = rw (length-append, length-drop) (omega arith) in
-      rw (content-is e t h) (record {
-        first = rw (le-leb (length t) (length scratch) fits);
-        second = rw (le-leb (length t) (length scratch) fits, l, le-leb (length t) (length scratch) fits) (take-append-seam t (drop (length t) scratch));
-        scratch-is = rw (le-leb (length t) (length scratch) fits) l;
-      })
-
 -- an event without bytes needs no scratch
 plain-free : (e : Event) (s : List ℕ) → hasBytes e ≡ false → scratchFor (meaningOf e s) ≡ 0
 unfolding hasBytes meaningOf scratchFor
@@ -91,37 +73,65 @@ plain-free (Nan b) s h = refl
 plain-free String s h = absurd (true≢false h)
 plain-free (Uid n) s h = refl
 
-module _ (file : List ℕ) (e : Event) (at : ℕ) (scratch : List ℕ) where
-  abbrev Short : Asked → Type 0
-  Short a = (hasBytes e ≡ true) × (lengthSaid file scratch at a ≡ refusing 16 [] at) × (scratchAfter file scratch a ≡ scratch)
+-- data need no scratch, and a text needs some where it isn't ASCII
+bytes-scratch : (s : List ℕ) → scratchFor (bytes s) ≡ 0
+unfolding scratchFor
+bytes-scratch s = refl
 
-  -- only a text that stands as UTF-16 can be longer than the scratch
-  lacks-by : (a : Asked) → Asks file e a → length scratch < scratchFor (meaningOf e (bytesAsked file a)) → Short a
-  unfolding bytesAsked lengthSaid scratchAfter scratchFor meaningOf hasBytes
-  lacks-by noBytes d less = absurd (omega (arith, less, plain-free e [] d))
-  lacks-by (denied number values) d less = absurd d
-  lacks-by (inFile start n) d less = go (d .1)
+text-scratch : (t : List ℕ) (ascii : Bool) → isAscii t ≡ ascii → scratchFor (text t) ≡ cond ascii 0 (length t)
+unfolding scratchFor
+text-scratch t ascii e = ap (λ (b : Bool). cond b 0 (length t)) e
+
+-- where the bytes of an event stand as its meaning asks, all of them do, they are its content, and the scratch that the meaning asks for is the one
+-- that they need: none but for a text that stands as UTF-16
+module _ (file : List ℕ) (e : Event) where
+  asks-whole : (a : Asked) → Asks file e a → Present file a
+  asks-whole (inFile start n) d = d .0
+  asks-whole (inUtf16 start n) d = tt
+  asks-whole noBytes d = tt
+  asks-whole (denied number values) d = d
+
+  asks-content : (a : Asked) → Asks file e a → contentOf (meaningOf e (bytesAsked file a)) ≡ bytesAsked file a
+  unfolding bytesAsked hasBytes
+  asks-content (inFile start n) d = content-is e (part file start n) (kept-has e _ (d .1))
+  asks-content (inUtf16 start n) d = content-is e (toUtf8 (part file start n)) (rw (d .0) refl)
+  asks-content noBytes d = content-none e [] d
+  asks-content (denied number values) d = absurd d
+
+  asks-scratch : (a : Asked) → Asks file e a → scratchFor (meaningOf e (bytesAsked file a)) ≡ scratchAsked file a
+  unfolding bytesAsked scratchAsked meaningOf
+  asks-scratch (inFile start n) d = go (d .1)
     where
-      go : (e ≡ Data) ⊎ ((e ≡ String) × (isAscii (part file start n) ≡ true)) → Short (inFile start n)
-      go (inl q) = let z : length scratch < 0 = rw q at less in absurd (omega arith)
-      go (inr q) = let z : length scratch < 0 = rw (q .0, q .1) at less in absurd (omega arith)
-  lacks-by (inUtf16 start n) d less =
-      let t = toUtf8 (part file start n) in
-      let needs : length scratch < cond (isAscii t) 0 (length t) = rw (d .0) at less in
-      let long : length scratch < length t = rw (d .1) at needs in
-      rw (lt-leb (length t) (length scratch) long) (rw (d .0) refl, refl, refl)
+      go : (e ≡ Data) ⊎ ((e ≡ String) × (isAscii (part file start n) ≡ true)) → scratchFor (meaningOf e (part file start n)) ≡ 0
+      go (inl q) = rw q (bytes-scratch (part file start n))
+      go (inr q) = rw (q .0) (text-scratch (part file start n) true (q .1))
+  asks-scratch (inUtf16 start n) d = rw (d .0) (text-scratch (toUtf8 (part file start n)) false (d .1))
+  asks-scratch noBytes d = plain-free e [] d
+  asks-scratch (denied number values) d = absurd d
+
+  asks-has : (a : Asked) → Asks file e a → 0 < scratchAsked file a → hasBytes e ≡ true
+  unfolding scratchAsked hasBytes
+  asks-has (inFile start n) d some = absurd (omega arith)
+  asks-has (inUtf16 start n) d some = rw (d .0) refl
+  asks-has noBytes d some = absurd (omega arith)
+  asks-has (denied number values) d some = absurd d
 
 pub hands-out : (file : List ℕ) → length file ≤ maxLength → (p : Put) (e : Event) → meaningAt file e (p .offset) ≡ p .meaning → Asks file e (eventAsked file e (p .offset)) → HandsOut file p (eventAt e (p .offset))
 unfolding askedOf meaningAt
-hands-out file short p e m d = record {
-  e = e;
-  is = refl;
-  means = m;
-  gives = λ scratch room. rw (le-ltb maxLength (length file) short, ← m) (gives-by file e (p .offset) scratch (eventAsked file e (p .offset)) d (rw m room));
-  lacks = λ scratch less.
-      let k = lacks-by file e (p .offset) scratch (eventAsked file e (p .offset)) d (rw m less) in
-      record { has = k .0; first = rw (le-ltb maxLength (length file) short) (k .1); kept = rw (le-ltb maxLength (length file) short) (k .2) };
-}
+hands-out file short p e m d =
+    let a = eventAsked file e (p .offset) in
+    let needs : scratchFor (p .meaning) ≡ scratchAsked file a = ap scratchFor (sym m) ∙ asks-scratch file e a d in
+    let content : bytesAsked file a ≡ contentOf (p .meaning) = sym (asks-content file e a d) ∙ ap contentOf m in
+    record {
+      e = e;
+      is = refl;
+      means = m;
+      gives = λ scratch room. rw (le-ltb maxLength (length file) short, ← content) (gives file scratch (p .offset) a (asks-whole file e a d) (rw needs at room));
+      lacks = λ scratch less.
+          let short-of : length scratch < scratchAsked file a = rw needs at less in
+          let k = lacks file scratch (p .offset) a short-of in
+          record { has = asks-has file e a d (omega arith); first = rw (le-ltb maxLength (length file) short) (k .0); kept = rw (le-ltb maxLength (length file) short) (k .1) };
+    }
 
 -- what they mean
 pub told-all : (file : List ℕ) (ps : List Put) (xs : List Said) → HandOut file ps xs → map (told file) xs ≡ toldOf ps

@@ -12,22 +12,17 @@ use Rattle.layout.specs.Frame.{noFrame}
 use Rattle.layout.specs.Trailer.{lays, trailerOf}
 use Rattle.layout.specs.declared.layout.Layout.{Layout}
 use Rattle.layout.specs.declared.frame.Frame.{Frame}
+use Rattle.reader.specs.Calls.{calls, answersOf}
 use Rattle.reader.specs.Machine as machine
-use Rattle.reader.specs.Machine.{Said, step, arrive, stepOf}
+use Rattle.reader.specs.Machine.{Said, arrive, stepOf}
 use Rattle.reader.specs.Meanings.{Told, ended, told, answers}
 use Rattle.reader.specs.Next.{laidOut, begin, withRefs, goOn, nextOf}
-use Rattle.reader.specs.State.{maxOpen, maxLength, freshReader, endedReader, moved}
-use Rattle.reader.specs.declared.state.Reader.{Reader}
+use Rattle.reader.specs.State.{maxOpen, maxLength, freshReader, moved}
 use Rattle.written.specs.Graph.{Piece, Name}
 use Rattle.written.specs.Shape.{whole}
-use Rattle.written_claims.specs.Back.{answersOf, read-from, eventBy, Shows}
+use Rattle.written_claims.specs.Back.{read-from, eventBy, Shows}
 use Rattle.written_claims.specs.Filled.{saidFrom}
 use Rattle.written_claims.specs.Frames.{inside}
-
-pub told-each : (file : List ℕ) (m : ℕ) (r : Reader) → answers m file r ≡ map (told file) (answersOf (nextOf file) m r)
-unfolding answers answersOf
-told-each file zero r = refl
-told-each file (suc m) r = ap (λ (l : List Told). told file (nextOf file r .answer) ∷ l) (told-each file m (nextOf file r .state))
 
 pub told-ended : (file : List ℕ) (m : ℕ) (l : List Said) → map (told file) (l ++ replicate m machine.ended) ≡ map (told file) l ++ replicate m ended
 unfolding told
@@ -41,16 +36,12 @@ module _ (file : List ℕ) (l : Layout) (short : length file ≤ maxLength) (tra
   next-open q k fr h =
       rw (ne-eqb (suc k) 0 (λ e. omega arith), le-ltb maxLength (length file) short, eq-eqb (length file) (length file) refl, le-ltb maxOpen (suc k) h, allowed (l .offsets), allowed (l .refs))
 
-  next-ended : nextOf file endedReader ≡ step endedReader machine.ended
-  unfolding nextOf
-  next-ended = refl
-
   next-first : nextOf file freshReader ≡ arrive (moved (laidOut file l) (l .table) 0 (replicate maxOpen noFrame)) 0 (sourceOf file l .look 0)
   unfolding nextOf begin laidOut sourceOf
   next-first = rw (le-ltb maxLength (length file) short, trailer)
 
   -- the reader's answers on the file
   pub read-said : (all : List Piece) (placeOf : Name → ℕ) → Shows all file (sourceOf file l) placeOf → (m : ℕ) → whole maxOpen all ≡ true
-      → answersOf (nextOf file) (length all + m) freshReader ≡ saidFrom (eventBy all (sourceOf file l)) placeOf 0 [] all ++ replicate m machine.ended
+      → answersOf (calls (length all + m) file freshReader) ≡ saidFrom (eventBy all (sourceOf file l)) placeOf 0 [] all ++ replicate m machine.ended
   read-said all placeOf shows m w =
-      read-from all file (sourceOf file l) placeOf shows (laidOut file l) (nextOf file) next-open next-ended freshReader (l .table) (replicate maxOpen noFrame) next-first refl m w
+      read-from all file (sourceOf file l) placeOf shows (laidOut file l) next-open freshReader (l .table) (replicate maxOpen noFrame) next-first refl m w

@@ -6,16 +6,16 @@ use lib.ListN.{length, replicate, length-map}
 use Rattle.event.specs.Format.{maxOpen}
 use Rattle.event.specs.Meaning.{Meaning}
 use Rattle.layout.specs.Layout.{sourceOf}
+use Rattle.reader.specs.Calls.{calls, answersOf}
 use Rattle.reader.specs.Machine.{Said}
 use Rattle.reader.specs.Machine as machine
 use Rattle.reader.specs.Meanings.{ended, answers}
-use Rattle.reader.specs.Next.{nextOf}
 use Rattle.reader.specs.State.{freshReader}
 use Rattle.transcribe.specs.TranscriptLaws.{toldOf, meaningsOf}
 use Rattle.written.specs.File.{placeOf, fileFor}
 use Rattle.written.specs.Graph.{pieceOf}
 use Rattle.written_claims.specs.Accepted.{Accepted, layoutFor, sound}
-use Rattle.written_claims.specs.Back.{answersOf, eventBy}
+use Rattle.written_claims.specs.Back.{eventBy}
 use Rattle.written_claims.specs.FileBack as back
 use Rattle.written_claims.specs.Filled.{filled, handedOf, saidFrom}
 use Rattle.written_claims.specs.FilledLaws.{handed-filled}
@@ -30,7 +30,7 @@ means-back ms a m = rw length-map at (back.told-back (map pieceOf ms) (sound ms 
 unfoldable pub saidOf : List Meaning → List Said
 saidOf ms = saidFrom (eventBy (map pieceOf ms) (sourceOf (fileFor ms) (layoutFor ms))) (placeOf (map pieceOf ms)) 0 [] (map pieceOf ms)
 
-pub said-back : (ms : List Meaning) → Accepted ms → (m : ℕ) → answersOf (nextOf (fileFor ms)) (length ms + m) freshReader ≡ saidOf ms ++ replicate m machine.ended
+pub said-back : (ms : List Meaning) → Accepted ms → (m : ℕ) → answersOf (calls (length ms + m) (fileFor ms) freshReader) ≡ saidOf ms ++ replicate m machine.ended
 unfolding fileFor saidOf
 said-back ms a m = rw length-map at (back.said-back (map pieceOf ms) (sound ms a) m)
 

@@ -1,88 +1,74 @@
--- Reading a written file onto a tape, with room enough: the tape holds exactly the events, lengths filled in.
-use mathlib.Core.List.{List, [], _∷_, _++_}
-use mathlib.Core.Path.{_≡_, refl, sym, ap, _∙_}
-use Prim.Native.Nat.{ℕ, suc, _+_, _≤_, _<_, max}
-use native.Mathlib.Nat.{zero-add, le-max-left, le-max-right}
-use native.Mathlib.Numerals.{add-one}
+-- Outcome a written file onto a tape, with room enough: the tape holds exactly the events, lengths filled in; and what enough is.
+use mathlib.Core.List.{List, []}
+use mathlib.Core.Logic.{_↔_}
+use mathlib.Core.Path.{_≡_, sym, ap, _∙_}
+use Prim.Native.Nat.{ℕ, _+_, _≤_, _<_}
+use native.Mathlib.Nat.{zero-add}
 use native.Mathlib.Omega.{arith}
-use lib.ListN.{length, take, drop, length-map}
-use lib.Seq.{sets, sets-eq, take-at, drop-at}
-use Rattle.event.specs.Meaning.{Meaning, array, dictionary, close, boolean, bytes, date, integer, real, text, uid}
-use Rattle.reader.specs.Machine.{Said}
-use Rattle.reader.specs.Machine as machine
-use Rattle.reader.specs.Next.{nextOf}
-use Rattle.reader.specs.State.{freshReader}
-use Rattle.tape.specs.Events.{tapeOf}
-use Rattle.tape.specs.EventsLaws.{AllOnTape}
-use Rattle.transcribe.specs.Run.{Run, run, ended, transcriptOf}
-use Rattle.transcribe.specs.TranscriptLaws.{Put, meaningsOf}
+use lib.ListN.{length, take}
+use Rattle.event.specs.Meaning.{Meaning}
+use Rattle.transcribe.specs.Run.{End, ended, stopped, refused, transcriptOf}
+use Rattle.transcribe.specs.TranscriptLaws.{Put}
+use Rattle.tape.specs.Code.{bytesFor}
 use Rattle.written.specs.File.{fileFor}
 use Rattle.written_claims.specs.Accepted.{Accepted}
-use Rattle.written_claims.specs.Again.{accepted-again, length-filled}
-use Rattle.written_claims.specs.Back.{answersOf}
 use Rattle.written_claims.specs.Filled.{filled, handedOf}
-use Rattle.written_claims.specs.HandsOut.{scratchFor, HandOut}
-use Rattle.written_claims.specs.ReadBack.{saidOf, said-back, bytes-back, handed-means}
-use Rattle.written_claims.specs.Whole.{AllWithin, run-handed}
+use Rattle.written_claims.specs.HandsOut.{scratchFor}
+use Rattle.written_claims.specs.ReadBack.{handed-means}
+use Rattle.written_claims.specs.ReadEnds.{length-handed, ends-back, which-first}
+use Rattle.written_claims.specs.Outcome.{scratchNeeded, tapeNeeded, budgetNeeded, Enough, Outcome, outcome, outcomeOf, Holds}
+use Rattle.written_claims.specs.OutcomeLaws as laws
+use Rattle.written_claims.specs.OutcomeLaws.{bytesOf, HasRoom, Reaches, needed-same}
 
--- the scratch that is enough: for the longest text that isn't ASCII
-unfoldable pub scratchNeeded : List Meaning → ℕ
-scratchNeeded [] = 0
-scratchNeeded (m ∷ ms) = max (scratchFor m) (scratchNeeded ms)
+module _ (ms : List Meaning) (a : Accepted ms) (budget : ℕ) (scratch tape : List ℕ) where
+  abbrev room : Type 0
+  room = Enough ms budget (length scratch) (length tape)
 
--- filling lengths in changes no text
-pub needed-same : (ms : List Meaning) → scratchNeeded (filled ms) ≡ scratchNeeded ms
-unfolding scratchNeeded scratchFor filled
-needed-same [] = refl
-needed-same (array v ∷ ms) = rw (needed-same ms)
-needed-same (dictionary v ∷ ms) = rw (needed-same ms)
-needed-same (close ∷ ms) = rw (needed-same ms)
-needed-same (boolean b ∷ ms) = rw (needed-same ms)
-needed-same (bytes s ∷ ms) = rw (needed-same ms)
-needed-same (date b ∷ ms) = rw (needed-same ms)
-needed-same (integer z ∷ ms) = rw (needed-same ms)
-needed-same (real b ∷ ms) = rw (needed-same ms)
-needed-same (text s ∷ ms) = rw (needed-same ms)
-needed-same (uid n ∷ ms) = rw (needed-same ms)
+  -- the same of what is handed out
+  abbrev Fits : Type 0
+  Fits = (length (handedOf ms) < budget) × HasRoom budget (length scratch) (length tape) 0 (handedOf ms) (handedOf ms)
 
-within : (room : ℕ) (ps : List Put) → scratchNeeded (meaningsOf ps) ≤ room → AllOnTape (meaningsOf ps) → AllWithin room ps
-unfolding scratchNeeded
-within room [] h t = tt
-within room (p ∷ ps) h t =
-    let l = le-max-left (scratchFor (p .meaning)) (scratchNeeded (meaningsOf ps)) in
-    let r = le-max-right (scratchFor (p .meaning)) (scratchNeeded (meaningsOf ps)) in
-    (omega (arith, h, l), t .0 .1, within room ps (omega (arith, h, r)) (t .1))
+  enough-fits : room → Fits
+  enough-fits (b, s, t) = rw (length-handed ms a, handed-means ms a, needed-same, zero-add) (b, (s, t))
 
-pub same-length : (file : List ℕ) (ps : List Put) (xs : List Said) → HandOut file ps xs → length xs ≡ length ps
-same-length file [] [] h = refl
-same-length file [] (x ∷ xs) h = absurd h
-same-length file (p ∷ ps) [] h = absurd h
-same-length file (p ∷ ps) (x ∷ xs) h = ap suc (same-length file ps xs (h .1))
+  fits-enough : Fits → room
+  fits-enough f = let (b, (s, t)) = rw (length-handed ms a, handed-means ms a, needed-same, zero-add) at f in (b, s, t)
 
--- what a reading leaves: it ended with the file; the bytes held are those of the events, and nothing behind them has changed
-pub record Holds (events : List Meaning) (tape : List ℕ) (x : Run) : Type 0 where
-  pub ends : x .ending ≡ ended
-  pub held : x .held ≡ length (tapeOf events)
-  pub front : take (x .held) (x .tape) ≡ tapeOf events
-  pub behind : drop (x .held) (x .tape) ≡ drop (x .held) tape
+  -- THE READING with room enough
+  pub whole-back : room → Holds ended (filled ms) tape (transcriptOf budget (fileFor ms) scratch tape)
+  whole-back e =
+      let (b, r) = enough-fits e in
+      let w : outcomeOf budget (length scratch) (length tape) 0 (handedOf ms) ≡ outcome ended (handedOf ms) = laws.enough-ended (which-first ms a budget scratch tape) b r in
+      rw (handed-means ms a) at (rw w at (ends-back ms a budget scratch tape))
 
-holds-run : (events given : List Meaning) (tape s : List ℕ) (x : Run) → given ≡ events → length (tapeOf events) ≤ length tape → x ≡ run ended (0 + length (tapeOf given)) (sets tape 0 (tapeOf given)) s → Holds events tape x
-holds-run events given tape s x is room r =
-    rw (r, is)
-    (let t = tapeOf events in
-    let e : sets tape 0 t ≡ t ++ drop (length t) tape = rw zero-add at (sets-eq t tape 0 (omega arith)) in
-    record { ends = refl; held = zero-add (length t); front = rw (zero-add, e) (take-at t (drop (length t) tape) (length t) refl); behind = rw (zero-add, e) (drop-at t (drop (length t) tape) (length t) refl) })
+  abbrev ending : End
+  ending = transcriptOf budget (fileFor ms) scratch tape .ending
 
--- THE READING: a budget above the number of events, the scratch above, and a tape as long as the events' bytes are enough
-pub whole-back : (ms : List Meaning) → Accepted ms → (budget : ℕ) (scratch tape : List ℕ) → length ms < budget → scratchNeeded ms ≤ length scratch → length (tapeOf (filled ms)) ≤ length tape
-    → Holds (filled ms) tape (transcriptOf budget (fileFor ms) scratch tape)
-unfolding transcriptOf
-whole-back ms a budget scratch tape more room fits =
-    let f = fileFor ms in
-    let ps = handedOf ms in
-    let is : meaningsOf ps ≡ filled ms = handed-means ms a in
-    let h = bytes-back ms a in
-    let n : length (saidOf ms) ≡ length ms = same-length f ps (saidOf ms) h ∙ sym (length-map ps (λ (p : Put). p .meaning)) ∙ ap length is ∙ length-filled ms in
-    let e : answersOf (nextOf f) (suc (length (saidOf ms))) freshReader ≡ saidOf ms ++ (machine.ended ∷ []) = rw n (rw add-one at (said-back ms a 1)) in
-    let r = run-handed f ps (saidOf ms) budget scratch tape 0 freshReader h e (rw n more) (within (length scratch) ps (rw (is, needed-same) room) (rw is (accepted-again ms a .held))) (rw (is, zero-add) fits) in
-    holds-run (filled ms) (meaningsOf ps) tape (r .0) _ is fits (r .1)
+  ends : {e : End} {ps : List Put} → outcomeOf budget (length scratch) (length tape) 0 (handedOf ms) ≡ outcome e ps → ending ≡ e
+  ends w = ends-back ms a budget scratch tape .ends ∙ ap (λ (y : Outcome). y .ending) w
+
+  -- it ends with the file exactly where all three are enough
+  pub ended-exactly : (ending ≡ ended) ↔ room
+  ended-exactly = (
+    λ e. fits-enough (laws.ended-enough (which-first ms a budget scratch tape) (sym (ends-back ms a budget scratch tape .ends) ∙ e)),
+    λ e. whole-back e .ends,
+  )
+
+  -- too little scratch alone: 16, at the first text that is too long for it; too little tape alone: 27, at the first event that doesn't fit; too small a
+  -- budget alone: it is used up
+  pub less-scratch : budgetNeeded ms ≤ budget → length scratch < scratchNeeded ms → tapeNeeded ms ≤ length tape
+      → (i : ℕ) × (p : Put) × Reaches budget (length scratch) (length tape) 0 (handedOf ms) i p × (length scratch < scratchFor (p .meaning)) × (ending ≡ refused 16 [] (p .offset))
+  less-scratch b s t =
+      let (i, p, r, l, e) = laws.less-scratch (which-first ms a budget scratch tape) (rw (length-handed ms a) b) (rw (handed-means ms a, needed-same) s) (rw (handed-means ms a, zero-add) t) in
+      (i, p, r, l, ends e)
+
+  pub less-tape : budgetNeeded ms ≤ budget → scratchNeeded ms ≤ length scratch → length tape < tapeNeeded ms
+      → (i : ℕ) × (p : Put) × Reaches budget (length scratch) (length tape) 0 (handedOf ms) i p × (length tape < bytesOf (take i (handedOf ms)) + length (bytesFor (p .meaning)))
+      × (ending ≡ refused 27 [] (bytesOf (take i (handedOf ms))))
+  less-tape b s t =
+      let (i, p, r, l, e) = laws.less-tape (which-first ms a budget scratch tape) (rw (length-handed ms a) b) (rw (handed-means ms a, needed-same) s) (rw (handed-means ms a, zero-add) t) in
+      (i, p, r, rw zero-add at l, rw zero-add at (ends e))
+
+  pub less-budget : budget < budgetNeeded ms → scratchNeeded ms ≤ length scratch → tapeNeeded ms ≤ length tape → ending ≡ stopped
+  less-budget b s t =
+      ends (laws.less-budget (which-first ms a budget scratch tape) (rw (length-handed ms a) (omega arith)) (rw (handed-means ms a, needed-same) s, rw (handed-means ms a, zero-add) t))

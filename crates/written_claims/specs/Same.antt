@@ -2,12 +2,12 @@
 use mathlib.Core.Bool.{Bool, true, false, true≢false, false≢true}
 use mathlib.Core.List.{List, [], _∷_, _++_, map, nil≢cons, head-eq-of-cons-eq, tail-eq-of-cons-eq}
 use mathlib.Core.Logic.{_↔_}
-use mathlib.Core.Option.{none}
 use mathlib.Core.Path.{_≡_, refl, sym, ap, ap₂, _∙_}
 use Prim.Native.Nat.{ℕ, zero, suc, _+_}
 use native.Mathlib.Nat.{add-comm}
 use lib.ListN.{length, replicate}
 use Rattle.event.specs.Meaning.{Meaning, array, dictionary, close, boolean, bytes, date, integer, real, text, uid}
+use Rattle.event.specs.Unmeasured.{unmeasured}
 use Rattle.reader.specs.Meanings.{Told, means, ended, refused, answers}
 use Rattle.reader.specs.State.{freshReader}
 use Rattle.transcribe.specs.TranscriptLaws.{Put, toldOf, meaningsOf}
@@ -37,49 +37,37 @@ told-one (p ∷ ps) [] m zero e = absurd (nil≢cons (sym e))
 told-one (p ∷ ps) [] m (suc n) e = absurd (true≢false (ap isMeans (head-eq-of-cons-eq e)))
 told-one (p ∷ ps) (q ∷ qs) m n e = ap₂ _∷_ (ap meaningIn (head-eq-of-cons-eq e)) (told-one ps qs m n (tail-eq-of-cons-eq e))
 
--- given lengths dropped
-unfoldable pub plainOf : Meaning → Meaning
-plainOf (array v) = array none
-plainOf (dictionary v) = dictionary none
-plainOf close = close
-plainOf (boolean b) = boolean b
-plainOf (bytes s) = bytes s
-plainOf (date b) = date b
-plainOf (integer z) = integer z
-plainOf (real b) = real b
-plainOf (text s) = text s
-plainOf (uid n) = uid n
+-- without given lengths events are the same to the writer
+piece-unmeasured : (m : Meaning) → pieceOf (unmeasured m) ≡ pieceOf m
+unfolding unmeasured pieceOf
+piece-unmeasured (array v) = refl
+piece-unmeasured (dictionary v) = refl
+piece-unmeasured close = refl
+piece-unmeasured (boolean b) = refl
+piece-unmeasured (bytes s) = refl
+piece-unmeasured (date b) = refl
+piece-unmeasured (integer z) = refl
+piece-unmeasured (real b) = refl
+piece-unmeasured (text s) = refl
+piece-unmeasured (uid n) = refl
 
-piece-plain : (m : Meaning) → pieceOf (plainOf m) ≡ pieceOf m
-unfolding plainOf pieceOf
-piece-plain (array v) = refl
-piece-plain (dictionary v) = refl
-piece-plain close = refl
-piece-plain (boolean b) = refl
-piece-plain (bytes s) = refl
-piece-plain (date b) = refl
-piece-plain (integer z) = refl
-piece-plain (real b) = refl
-piece-plain (text s) = refl
-piece-plain (uid n) = refl
+pub pieces-unmeasured : (ms : List Meaning) → map pieceOf (map unmeasured ms) ≡ map pieceOf ms
+pieces-unmeasured [] = refl
+pieces-unmeasured (m ∷ ms) = ap₂ _∷_ (piece-unmeasured m) (pieces-unmeasured ms)
 
-pub pieces-plain : (ms : List Meaning) → map pieceOf (map plainOf ms) ≡ map pieceOf ms
-pieces-plain [] = refl
-pieces-plain (m ∷ ms) = ap₂ _∷_ (piece-plain m) (pieces-plain ms)
-
-plain-filled : (ms : List Meaning) → map plainOf (filled ms) ≡ map plainOf ms
-unfolding plainOf filled
-plain-filled [] = refl
-plain-filled (array v ∷ ms) = rw (plain-filled ms)
-plain-filled (dictionary v ∷ ms) = rw (plain-filled ms)
-plain-filled (close ∷ ms) = rw (plain-filled ms)
-plain-filled (boolean b ∷ ms) = rw (plain-filled ms)
-plain-filled (bytes s ∷ ms) = rw (plain-filled ms)
-plain-filled (date b ∷ ms) = rw (plain-filled ms)
-plain-filled (integer z ∷ ms) = rw (plain-filled ms)
-plain-filled (real b ∷ ms) = rw (plain-filled ms)
-plain-filled (text s ∷ ms) = rw (plain-filled ms)
-plain-filled (uid n ∷ ms) = rw (plain-filled ms)
+unmeasured-filled : (ms : List Meaning) → map unmeasured (filled ms) ≡ map unmeasured ms
+unfolding unmeasured filled
+unmeasured-filled [] = refl
+unmeasured-filled (array v ∷ ms) = rw (unmeasured-filled ms)
+unmeasured-filled (dictionary v ∷ ms) = rw (unmeasured-filled ms)
+unmeasured-filled (close ∷ ms) = rw (unmeasured-filled ms)
+unmeasured-filled (boolean b ∷ ms) = rw (unmeasured-filled ms)
+unmeasured-filled (bytes s ∷ ms) = rw (unmeasured-filled ms)
+unmeasured-filled (date b ∷ ms) = rw (unmeasured-filled ms)
+unmeasured-filled (integer z ∷ ms) = rw (unmeasured-filled ms)
+unmeasured-filled (real b ∷ ms) = rw (unmeasured-filled ms)
+unmeasured-filled (text s ∷ ms) = rw (unmeasured-filled ms)
+unmeasured-filled (uid n ∷ ms) = rw (unmeasured-filled ms)
 
 -- the same events but for lengths, the same file
 pub file-same : (ms ns : List Meaning) → map pieceOf ms ≡ map pieceOf ns → fileFor ms ≡ fileFor ns
@@ -101,8 +89,8 @@ same-pieces ms ns a b = (
 )
 
 -- THE SAME RECORD, THE SAME BYTES
-pub same-file : (ms ns : List Meaning) → Accepted ms → Accepted ns → (fileFor ms ≡ fileFor ns) ↔ (map plainOf ms ≡ map plainOf ns)
+pub same-file : (ms ns : List Meaning) → Accepted ms → Accepted ns → (fileFor ms ≡ fileFor ns) ↔ (map unmeasured ms ≡ map unmeasured ns)
 same-file ms ns a b = (
-  (λ e. sym (plain-filled ms) ∙ ap (map plainOf) (same-filled ms ns a b e) ∙ plain-filled ns),
-  (λ e. file-same ms ns (sym (pieces-plain ms) ∙ ap (map pieceOf) e ∙ pieces-plain ns)),
+  (λ e. sym (unmeasured-filled ms) ∙ ap (map unmeasured) (same-filled ms ns a b e) ∙ unmeasured-filled ns),
+  (λ e. file-same ms ns (sym (pieces-unmeasured ms) ∙ ap (map pieceOf) e ∙ pieces-unmeasured ns)),
 )

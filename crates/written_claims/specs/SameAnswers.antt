@@ -1,7 +1,7 @@
 -- Given lengths change no answer of the writer but places on the tape: two tapes whose events are the same but for given lengths get the same answer,
 -- each with its own tape's places.
 use mathlib.Core.Bool.{Bool, true, false}
-use mathlib.Core.List.{List, [], _∷_, map}
+use mathlib.Core.List.{List, [], map}
 use mathlib.Core.Path.{_≡_, refl, sym, ap, _∙_}
 use Prim.Native.Nat.{ℕ, _≤_, _<_}
 use native.Mathlib.Omega.{arith}
@@ -9,56 +9,32 @@ use lib.Dec.{lit<}
 use lib.ListN.{length}
 use Rattle.number.specs.BeLaws.{Bytes}
 use Rattle.event.specs.Format.{maxLength}
-use Rattle.event.specs.Meaning.{Meaning, array, dictionary, close, boolean, bytes, date, integer, real, text, uid}
-use Rattle.tape.specs.Events.{Events, whole, broken, eventsOf}
-use Rattle.grammar.specs.Check.{Move, onto, barred, moveOf, checkOf}
+use Rattle.event.specs.Meaning.{Meaning}
+use Rattle.event.specs.Unmeasured.{unmeasured}
+use Rattle.tape.specs.Events.{Events, whole, broken, eventsOf, meantBy, meaningsIn, startAt}
+use Rattle.grammar.specs.Check.{checkOf}
+use Rattle.grammar.specs.MoreLaws.{stops-least}
 use Rattle.grammar.specs.Said.{numberOf, kindsOf, refusedAt}
-use Rattle.grammar.specs.Turn.{turnOf}
+use Rattle.grammar.specs.Verdict.{Verdict, passes, unfinished, stops, judgeFrom, judge, saidBy}
+use Rattle.grammar.specs.VerdictLaws.{check-judged, judge-unmeasured}
 use Rattle.grammar.specs.declared.answer.EventKind.{EventKind}
 use Rattle.grammar.specs.declared.answer.Refusal.{Refusal}
 use Rattle.grammar.specs.declared.answer.Refusal.the-variants.{TooLong, TooDeep, BadTape, UnexpectedEventType, IncompleteRoot, TrailingEvents}
 use Rattle.grammar.specs.declared.turn.Due.{Due}
 use Rattle.written.specs.File.{fileFor}
 use Rattle.written.specs.Graph.{pieceOf}
-use Rattle.writer.specs.Ready.{meantBy, meaningsIn, startAt}
 use Rattle.writer.specs.Write.{Said, long, refused, byCheck, writeOf}
-use Rattle.written_claims.specs.Same.{plainOf, pieces-plain, file-same}
-use Rattle.written_claims.specs.Verdict.{Verdict, passes, unfinished, stops, later, judgeFrom, judge, saidBy}
-use Rattle.written_claims.specs.VerdictLaws.{check-judged}
-
-turn-plain : (due : Due) (m : Meaning) → turnOf due (plainOf m) ≡ turnOf due m
-unfolding turnOf plainOf
-turn-plain due (array n) = refl
-turn-plain due (dictionary n) = refl
-turn-plain due close = refl
-turn-plain due (boolean b) = refl
-turn-plain due (bytes s) = refl
-turn-plain due (date b) = refl
-turn-plain due (integer z) = refl
-turn-plain due (real b) = refl
-turn-plain due (text s) = refl
-turn-plain due (uid n) = refl
-
-after-same : (bad : Bool) (ms ns : List Meaning) (v : Move) → ((d : Due) (ds : List Due) → judgeFrom bad d ds ms ≡ judgeFrom bad d ds ns)
-    → _≡_ {A = Verdict} (elim v [ onto d ds ↦ later (judgeFrom bad d ds ms) | barred r ↦ stops 0 r ]) (elim v [ onto d ds ↦ later (judgeFrom bad d ds ns) | barred r ↦ stops 0 r ])
-after-same bad ms ns (onto d ds) e = ap later (e d ds)
-after-same bad ms ns (barred r) e = refl
-
--- the verdict goes by events without their lengths
-pub judge-plain : (bad : Bool) (due : Due) (around : List Due) (ms : List Meaning) → judgeFrom bad due around (map plainOf ms) ≡ judgeFrom bad due around ms
-unfolding judgeFrom
-judge-plain bad due around [] = refl
-judge-plain bad due around (m ∷ ms) = rw (turn-plain due m, judgeFrom) (after-same bad (map plainOf ms) ms (moveOf (turnOf due m) due around) (λ d ds. judge-plain bad d ds ms))
+use Rattle.written_claims.specs.Same.{pieces-unmeasured, file-same}
 
 -- the same but for given lengths, and both whole or both bad behind them
 abbrev pub Alike : Events → Events → Type 0
-Alike (whole ms) (whole ns) = map plainOf ms ≡ map plainOf ns
+Alike (whole ms) (whole ns) = map unmeasured ms ≡ map unmeasured ns
 Alike (whole ms) (broken ns place) = ⊥
 Alike (broken ms place) (whole ns) = ⊥
-Alike (broken ms place) (broken ns other) = map plainOf ms ≡ map plainOf ns
+Alike (broken ms place) (broken ns other) = map unmeasured ms ≡ map unmeasured ns
 
-judge-same : (bad : Bool) (due : Due) (around : List Due) (ms ns : List Meaning) → map plainOf ms ≡ map plainOf ns → judgeFrom bad due around ms ≡ judgeFrom bad due around ns
-judge-same bad due around ms ns e = sym (judge-plain bad due around ms) ∙ ap (judgeFrom bad due around) e ∙ judge-plain bad due around ns
+judge-same : (bad : Bool) (due : Due) (around : List Due) (ms ns : List Meaning) → map unmeasured ms ≡ map unmeasured ns → judgeFrom bad due around ms ≡ judgeFrom bad due around ns
+judge-same bad due around ms ns e = sym (judge-unmeasured bad due around ms) ∙ ap (judgeFrom bad due around) e ∙ judge-unmeasured bad due around ns
 
 pub same-verdict : (es fs : Events) → Alike es fs → judge es ≡ judge fs
 unfolding judge
@@ -67,26 +43,31 @@ same-verdict (whole ms) (broken ns place) e = absurd e
 same-verdict (broken ms place) (whole ns) e = absurd e
 same-verdict (broken ms place) (broken ns other) e = judge-same true _ _ ms ns e
 
-same-meant : (es fs : Events) → Alike es fs → map plainOf (meantBy es) ≡ map plainOf (meantBy fs)
+same-meant : (es fs : Events) → Alike es fs → map unmeasured (meantBy es) ≡ map unmeasured (meantBy fs)
 unfolding meantBy
 same-meant (whole ms) (whole ns) e = e
 same-meant (whole ms) (broken ns place) e = absurd e
 same-meant (broken ms place) (whole ns) e = absurd e
 same-meant (broken ms place) (broken ns other) e = e
 
--- two answers: the same; or the same refusal at the same event, or at the end, each by its own tape's places
+-- two answers: the same; or the same refusal at the same event (behind them all: at what is none), or at the end, each by its own tape's places
 pub data SameAnswer (s t : List ℕ) (x y : Said) : Type 0 where
   equal : x ≡ y → SameAnswer s t x y
-  at-event : (i : ℕ) (r : Refusal) → x ≡ refused (numberOf r) (kindsOf r) (startAt s i) → y ≡ refused (numberOf r) (kindsOf r) (startAt t i) → SameAnswer s t x y
+  at-event : (i : ℕ) (r : Refusal) → i ≤ length (meaningsIn s) → x ≡ refused (numberOf r) (kindsOf r) (startAt s i) → y ≡ refused (numberOf r) (kindsOf r) (startAt t i) → SameAnswer s t x y
   at-end : x ≡ refused 22 [] (length s) → y ≡ refused 22 [] (length t) → SameAnswer s t x y
 
--- one verdict on both, and one file where it is that they are whole
-pub by-verdict : (s t : List ℕ) (v : Verdict) (file other : List ℕ) (words room : ℕ) → ((n : ℕ) → v ≡ passes n → file ≡ other)
-    → SameAnswer s t (byCheck (saidBy 0 (length s) (startAt s) v) file words room) (byCheck (saidBy 0 (length t) (startAt t) v) other words room)
+-- what the writer answers to a tape that is not too long (1)
+pub answered : (t : List ℕ) → Bytes t → length t ≤ maxLength → (words room : ℕ) (v : Verdict) → judge (eventsOf t) ≡ v → writeOf t words room ≡ byCheck (saidBy 0 (length t) (startAt t) v) (fileFor (meaningsIn t)) words room
+unfolding writeOf
+answered t good short words room v e = rw (check-judged t good short, e)
+
+-- one verdict on both, and one file
+by-verdict : (s t : List ℕ) (v : Verdict) (file : List ℕ) (words room : ℕ) → ((i : ℕ) (r : Refusal) → v ≡ stops i r → i ≤ length (meaningsIn s))
+    → SameAnswer s t (byCheck (saidBy 0 (length s) (startAt s) v) file words room) (byCheck (saidBy 0 (length t) (startAt t) v) file words room)
 unfolding saidBy byCheck refusedAt numberOf kindsOf
-by-verdict s t (passes n) file other words room h = rw (h n refl) (equal refl)
-by-verdict s t unfinished file other words room h = at-end refl refl
-by-verdict s t (stops i r) file other words room h = at-event i r refl refl
+by-verdict s t (passes n) file words room h = equal refl
+by-verdict s t unfinished file words room h = at-end refl refl
+by-verdict s t (stops i r) file words room h = at-event i r (h i r refl) refl refl
 
 -- the tape's refusals have numbers below 24
 number-low : (r : Refusal) → numberOf r < 24
@@ -113,14 +94,14 @@ module _ (s t : List ℕ) (bs : Bytes s) (bt : Bytes t) (ls : length s ≤ maxLe
   same-written =
       let m = meaningsIn s in
       let n = meaningsIn t in
-      file-same m n (sym (pieces-plain m) ∙ ap (map pieceOf) (same-meant (eventsOf s) (eventsOf t) alike) ∙ pieces-plain n)
+      file-same m n (sym (pieces-unmeasured m) ∙ ap (map pieceOf) (same-meant (eventsOf s) (eventsOf t) alike) ∙ pieces-unmeasured n)
 
   -- and the writer answers the same, for any words and room
   pub same-answer : (words room : ℕ) → SameAnswer s t (writeOf s words room) (writeOf t words room)
-  unfolding writeOf
   same-answer words room =
-      let c = same-check in
-      rw (c .1, c .2) (by-verdict s t (c .0) (fileFor (meaningsIn s)) (fileFor (meaningsIn t)) words room (λ n e. same-written))
+      let v = judge (eventsOf s) in
+      rw (answered s bs ls words room v refl, answered t bt lt words room v (sym (same-verdict (eventsOf s) (eventsOf t) alike)), ← same-written)
+      (by-verdict s t v (fileFor (meaningsIn s)) words room (stops-least s))
 
   -- 24, 25 and 26 whole
   pub same-room : (words room number place : ℕ) (kinds : List EventKind) → 23 < number → writeOf s words room ≡ refused number kinds place → writeOf t words room ≡ refused number kinds place
@@ -128,7 +109,7 @@ module _ (s t : List ℕ) (bs : Bytes s) (bt : Bytes t) (ls : length s ≤ maxLe
     where
       go : SameAnswer s t (writeOf s words room) (writeOf t words room) → writeOf t words room ≡ refused number kinds place
       go (equal q) = sym q ∙ e
-      go (at-event i r x y) = let z : number ≡ numberOf r = ap numberIn (sym e ∙ x) in absurd (omega (arith, number-low r))
+      go (at-event i r l x y) = let z : number ≡ numberOf r = ap numberIn (sym e ∙ x) in absurd (omega (arith, number-low r))
       go (at-end x y) = let z : number ≡ 22 = ap numberIn (sym e ∙ x) in absurd (omega arith)
 
   -- a file's length too
@@ -140,5 +121,5 @@ module _ (s t : List ℕ) (bs : Bytes s) (bt : Bytes t) (ls : length s ≤ maxLe
 
       go : SameAnswer s t (writeOf s words room) (writeOf t words room) → writeOf t words room ≡ long k
       go (equal q) = sym q ∙ e
-      go (at-event i r x y) = absurd (apart (sym e ∙ x))
+      go (at-event i r l x y) = absurd (apart (sym e ∙ x))
       go (at-end x y) = absurd (apart (sym e ∙ x))

@@ -7,42 +7,18 @@ use mathlib.Core.Path.{_≡_, refl}
 use Prim.Native.Nat.{ℕ}
 use lib.IntN.{pos, negsuc}
 use lib.ListN.{replicate, drop}
-use Rattle.number.specs.Be.{be, onto, bytesOf}
 use Rattle.number.specs.Cases.{p1}
-use Rattle.number.specs.Signed.{signedOf}
-use Rattle.number.specs.Size.{needed, rounded, sizeOf}
-use Rattle.number.specs.Width.{widthOf, bytesIn}
-use Rattle.event.specs.Format.{magic}
-use Rattle.event.specs.Meaning.{array, dictionary, close, boolean, integer, text, meaningOf, valueOf, givenOf}
-use Rattle.unicode.specs.Unicode.{isUtf8, wellFormed, rowOf, within}
-use Rattle.unicode.specs.Unicode as unicode
-use Rattle.object.specs.Container.{containerAt, containerOf, arrayOf, dictionaryOf}
-use Rattle.object.specs.Content.{contentAt, extentAt, endsBefore, lengthWidth, hasLength, measured, headAt}
-use Rattle.object.specs.Kind.{kindOf}
-use Rattle.object.specs.Object.{objectAt, byKind, fixedAt, utf8In, arrayIn, dictionaryIn}
+use Rattle.number.specs.Size.{sizeOf}
+use Rattle.event.specs.Meaning.{array, dictionary, close, boolean, integer, text}
 use Rattle.reader.specs.Cases as reading
-use Rattle.layout.specs.Bytes.{dataAsked, textAsked, eventAsked}
-use Rattle.layout.specs.Frame.{nextIn}
-use Rattle.layout.specs.Layout.{numberAt, entryAt, placeIn, given, dueAt, inArray, inDictionary, dueIn, standsFrom, standsAt, dueOf, lookIn, lookFrom, lookOf, sourceOf}
-use Rattle.layout.specs.Looked.{startOf}
-use Rattle.layout.specs.Trailer.{begins, eightAt, tableOf, refSizeOf, sizesOf, trailerOf}
-use Rattle.reader.specs.Machine.{enter, arrive, follow, stepOf}
-use Rattle.reader.specs.Meanings.{Told, means, ended, refused, answers, told, meaningAt, bytesAsked}
-use Rattle.reader.specs.Next.{laidOut, begin, withRefs, goOn, nextOf}
-use Rattle.reader.specs.State.{freshReader, openOf, innermost, memberOf, advanced, passed, entered, closed}
-use Rattle.tape.specs.Events.{before, eventsFrom, eventsOf}
-use Rattle.tape.specs.Item.{plain, ofKind, itemAt, meaningIn, readingOf, readAt}
-use Rattle.grammar.specs.Check.{moveOf, finishOf, checkFrom, checkOf}
-use Rattle.grammar.specs.Said.{numberOf, kindsOf, refusedAt}
-use Rattle.grammar.specs.Turn.{isNothing, afterOf, unexpectedOf, unlessKey, endTurn, turnOf, turnBy, turnAt}
-use Rattle.written.specs.Encoding.{nibbleOf, headBytes, numbersBytes, objectBytes, trailerBytes}
+use Rattle.reader.specs.Meanings.{Told, means, ended, refused, answers}
+use Rattle.reader.specs.State.{freshReader}
+use Rattle.tape.specs.Events.{meaningsIn}
 use Rattle.written.specs.Examples as writing
-use Rattle.written.specs.File.{flat, ahead, refSize, bytesAt, body, placeOf, tableAt, offsetSize, table, fileOf, fileFor}
-use Rattle.written.specs.Graph.{pieceOf, same, kids, laid, names, order, number, bodyOf, objectOf, spoken, emission}
-use Rattle.written.specs.Nub.{has, nub, nubOnto, indexOf}
-use Rattle.writer.specs.Ready.{meantBy, meaningsIn}
-use Rattle.writer.specs.Write.{long, wordsFor, fittedOf, byCheck, writeOf}
+use Rattle.written.specs.File.{fileFor}
+use Rattle.writer.specs.Write.{long, writeOf}
 use Rattle.writer.specs.Write as writer
+use Rattle.written_claims.specs.Computed.{computed}
 
 -- what the first eight calls on the five files answer: each event with its object's offset, then the end
 abbrev readings : List (List Told)
@@ -55,7 +31,7 @@ readings =
     []
 
 readings-right : map (λ (c : writing.Case). answers 8 (c .file) freshReader) writing.cases ≡ readings
-unfolding be onto signedOf widthOf bytesIn isUtf8 wellFormed rowOf unicode.table within meaningOf valueOf givenOf containerAt containerOf arrayOf dictionaryOf contentAt measured headAt hasLength endsBefore extentAt lengthWidth kindOf objectAt byKind fixedAt utf8In arrayIn dictionaryIn numberAt entryAt placeIn given dueAt inArray inDictionary dueIn standsFrom standsAt dueOf lookIn lookFrom lookOf sourceOf startOf enter arrive follow stepOf answers told meaningAt bytesAsked laidOut begin withRefs goOn nextOf dataAsked textAsked eventAsked openOf innermost memberOf advanced passed entered nextIn closed magic begins eightAt tableOf refSizeOf sizesOf trailerOf
+unfolding computed
 readings-right = refl
 
 -- the tape of n arrays, each inside the last
@@ -64,12 +40,12 @@ arrays n = replicate n 0x0A ++ replicate n 0x0E
 
 -- 64 of them are written, as the file that the cases of reading have; 65 are refused at the 65th
 arrays-written : fileFor (meaningsIn (arrays 64)) ≡ reading.nested 63
-unfolding meaningsIn meantBy eventsOf eventsFrom before readAt readingOf itemAt ofKind plain meaningIn meaningOf givenOf fileFor fileOf magic body table tableAt offsetSize placeOf bytesAt refSize flat ahead pieceOf order number emission spoken names laid kids bodyOf objectOf same nub nubOnto has indexOf objectBytes headBytes nibbleOf numbersBytes trailerBytes bytesOf sizeOf rounded needed
+unfolding computed
 arrays-written = refl
 
 arrays-answered : (writeOf (arrays 64) 1024 231 ≡ long 231) × (writeOf (arrays 65) 1040 234 ≡ writer.refused 15 [] 64)
-unfolding writeOf byCheck wordsFor fittedOf checkOf checkFrom finishOf moveOf refusedAt numberOf kindsOf isNothing afterOf unexpectedOf unlessKey endTurn turnOf turnBy turnAt meaningsIn meantBy eventsOf eventsFrom before readAt readingOf itemAt ofKind plain meaningIn meaningOf givenOf magic trailerBytes bytesOf
-arrays-answered = (rw arrays-written refl, refl)
+unfolding computed
+arrays-answered = (refl, refl)
 
 pub cases :
     -- P1

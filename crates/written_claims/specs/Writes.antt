@@ -1,7 +1,8 @@
 -- A tape that is whole, and whose file is not too long, is accepted. Where the writer answers with a length that is so, and the file is in the output.
 use mathlib.Core.Bool.{Bool, true, false, cond}
 use mathlib.Core.List.{List, []}
-use mathlib.Core.Path.{_≡_, refl, sym}
+use mathlib.Core.Logic.{_↔_}
+use mathlib.Core.Path.{_≡_, refl, sym, _∙_}
 use Prim.Native.Nat.{ℕ, _≤_}
 use native.Mathlib.Omega.{arith}
 use borrow.Author.Tests.{ltb-false}
@@ -10,13 +11,15 @@ use lib.ListN.{length}
 use lib.Seq.{sets}
 use Rattle.number.specs.BeLaws.{Bytes}
 use Rattle.event.specs.Format.{maxLength}
+use Rattle.tape.specs.Events.{whole, eventsOf, meaningsIn}
 use Rattle.tape.specs.EventsLaws.{whole-is}
 use Rattle.grammar.specs.Check.{checkOf}
+use Rattle.grammar.specs.FitsLaws.{fits-check}
 use Rattle.grammar.specs.Said as check
 use Rattle.grammar.specs.declared.answer.EventKind.{EventKind}
 use Rattle.written.specs.File.{fileFor}
-use Rattle.writer.specs.CheckLaws.{ready-of}
-use Rattle.writer.specs.Ready.{meaningsIn, piecesIn}
+use Rattle.writer.specs.CheckLaws.{fits-is, ready-of}
+use Rattle.writer.specs.Ready.{piecesIn}
 use Rattle.writer.specs.Write.{long, refused, wordsFor, fittedOf, byCheck, writeOf, outputBy, outputOf}
 use Rattle.written_claims.specs.Accepted.{Accepted}
 
@@ -25,6 +28,16 @@ unfolding piecesIn
 accepted-of t n b e h =
     let r = ready-of t n b e in
     record { held = whole-is t (meaningsIn t) b (r .events) .0; one = r .shaped; short = h }
+
+-- ACCEPTED, exactly where the check finds the tape whole and the file is not too long
+pub accepted-exactly : (t : List ℕ) → Bytes t
+    → (Accepted (meaningsIn t) × (eventsOf t ≡ whole (meaningsIn t)) × (length t ≤ maxLength)) ↔ ((checkOf t ≡ check.whole (length (meaningsIn t))) × (length (fileFor (meaningsIn t)) ≤ maxLength))
+accepted-exactly t b = (
+  (λ a. (fits-check t (meaningsIn t) (a .2) (a .1) (fits-is (meaningsIn t) ∙ a .0 .one), a .0 .short)),
+  (λ c.
+      let r = ready-of t (length (meaningsIn t)) b (c .0) in
+      (accepted-of t (length (meaningsIn t)) b (c .0) (c .1), r .events, r .short)),
+)
 
 -- what a length that is answered says of a file and the room for it
 pub record Fitted (file : List ℕ) (room k : ℕ) : Type 0 where

@@ -1,16 +1,24 @@
 -- `transcribe` is the definition's run: the trailer first, then the walk from the root.
 use mathlib.Core.Path.{sym, ap, _∙_}
+use Prim.Native.Nat.{ℕ}
+use native.Mathlib.Omega.{arith}
 use borrow.Author.Needs.{needs}
+use Rattle.number.specs.BeLaws.{Bytes, bytes-of}
 use Rattle.layout.specs.Said.{trailerSaid}
+use Rattle.reader.specs.Said.{numberOf, valuesOf}
 use Rattle.transcribe.specs.Said.{endSaid}
 use Rattle.layout.proofs.Short.{laid-short}
 use Rattle.transcribe.proofs.Calls.{begins-none, begins-keeps, begins-ends, begins-lays}
 use Rattle.transcribe.proofs.transcribe.Statement.{statement}
 use Rattle.transcribe.proofs.transcribe.Tie as tie
 
+-- what is lent as a file is bytes
+file-bytes : (x : tie.After-shared-slice-known) → Bytes (x .before .args .file .now)
+file-bytes x = bytes-of (x .before .args .file .now) (λ (i : ℕ). omega (arith, x .shared-slice-known .given i))
+
 returns : tie.Need-returns
 unfolding endSaid
-returns c = sym (begins-none _ _ _ _ (c .if1 .taken))
+returns c = (sym (begins-none _ _ _ _ (c .if1 .taken)), file-bytes (c .before .before .before))
 
 trailer-of-requires : tie.Need-trailer-of-requires
 trailer-of-requires c κs = search needs
@@ -35,12 +43,18 @@ unfolding trailerSaid
 walk-requires c κs = laid-short _ _ _ (sym (c .before .before .before .before .before .trailer-of .ensures) ∙ ap trailerSaid (c .before .before .before .layout .given .1))
 
 returns-2 : tie.Need-returns-2
-unfolding trailerSaid
-returns-2 c = rw (c .refused .ensures .0, c .refused .ensures .1) (begins-keeps _ _ _ _ (c .before .before .before .before .before .if1 .left) _ _ _ (sym (ap trailerSaid (c .before .before .refusal .given .1)) ∙ c .before .before .before .before .trailer-of .ensures))
+unfolding trailerSaid numberOf valuesOf
+returns-2 c = (
+  rw (c .refused .ensures .0, c .refused .ensures .1) (begins-keeps _ _ _ _ (c .before .before .before .before .before .if1 .left) _ _ _ (sym (ap trailerSaid (c .before .before .refusal .given .1)) ∙ c .before .before .before .before .trailer-of .ensures)),
+  file-bytes (c .before .before .before .before .before .before .before .before),
+)
 
 returns-3 : tie.Need-returns-3
-unfolding trailerSaid
-returns-3 c = rw (c .refused2 .ensures .0, c .refused2 .ensures .1) (begins-ends _ _ _ _ (c .before .before .before .before .before .if1 .left) _ _ _ (sym (ap trailerSaid (c .before .before .refusal2 .given .1)) ∙ c .before .before .before .before .trailer-of .ensures))
+unfolding trailerSaid numberOf valuesOf
+returns-3 c = (
+  rw (c .refused2 .ensures .0, c .refused2 .ensures .1) (begins-ends _ _ _ _ (c .before .before .before .before .before .if1 .left) _ _ _ (sym (ap trailerSaid (c .before .before .refusal2 .given .1)) ∙ c .before .before .before .before .trailer-of .ensures)),
+  file-bytes (c .before .before .before .before .before .before .before .before),
+)
 
 same-length : tie.Need-same-length
 same-length c = search needs
@@ -50,7 +64,9 @@ same-length-2 c = search needs
 
 returns-4 : tie.Need-returns-4
 unfolding trailerSaid
-returns-4 c = c .before .before .before .before .walk .ensures ∙ begins-lays _ _ _ _ _ _ (sym (ap trailerSaid (c .before .before .before .before .before .before .before .before .layout .given .1)) ∙ c .before .before .before .before .before .before .before .before .before .before .trailer-of .ensures)
+returns-4 c =
+    let e = c .before .before .before .before .walk .ensures ∙ begins-lays _ _ _ _ _ _ (sym (ap trailerSaid (c .before .before .before .before .before .before .before .before .layout .given .1)) ∙ c .before .before .before .before .before .before .before .before .before .before .trailer-of .ensures) in
+    (e, file-bytes (c .before .before .before .before .before .before .before .before .before .before .before .before .before .before))
 
 pub transcribe-spec : {M : Type 1} → statement M
 transcribe-spec =

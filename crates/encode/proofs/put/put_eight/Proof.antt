@@ -57,7 +57,7 @@ returns-3 c =
     let r = room (c .before .before .before .before .before .before) in
     let n = length-between (a .tape .now) (a .at) 8 r in
     let w = c .before .before .write-bytes .ensures in
-    renamed _ (eight-part (a .tape .now) (a .at) (a .marker) r) (written _ _ (omega arith) (omega arith) w)
+    renamed _ (eight-part (a .tape .now) (a .at) (a .marker) r) (written _ _ (omega arith) (omega arith) (omega arith) w)
 
 pub put-eight-spec : {M : Type 1} → statement M
 put-eight-spec =

@@ -3,7 +3,7 @@ use native.Mathlib.Omega.{arith}
 use lib.ListN.{length}
 use Rattle.encode.specs.Put.{baseOf}
 use Rattle.encode.specs.SizeLaws.{length-head}
-use Rattle.encode.proofs.Putting.{refused, written}
+use Rattle.encode.proofs.Putting.{none-put, all-put, said}
 use borrow.Author.Needs.{needs}
 use Rattle.encode.proofs.put.put_head.Statement.{statement}
 use Rattle.encode.proofs.put.put_head.Tie as tie
@@ -14,7 +14,7 @@ head-size-requires c κs = search needs
 returns : tie.Need-returns
 returns c =
     let a = c .before .before .before .args in
-    refused _ _ (omega (arith, c .before .head-size .ensures, length-head (baseOf (a .base)) (a .length)))
+    said 0 (none-put _ _ (omega (arith, c .before .head-size .ensures, length-head (baseOf (a .base)) (a .length))))
 
 write-head-requires : tie.Need-write-head-requires
 write-head-requires c κs = search needs
@@ -27,7 +27,7 @@ returns-2 c =
     let a = c .before .before .before .before .before .before .before .args in
     let n = length-head (baseOf (a .base)) (a .length) in
     let w = c .before .before .write-head .ensures in
-    written _ _ (omega (arith, c .before .before .before .before .before .head-size .ensures)) (omega (arith, w .0)) (w .1)
+    said 0 (all-put _ _ (omega (arith, c .before .before .before .before .before .head-size .ensures)) (omega (arith, w .0)) (w .1))
 
 pub put-head-spec : {M : Type 1} → statement M
 put-head-spec =

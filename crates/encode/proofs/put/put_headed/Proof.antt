@@ -6,6 +6,7 @@ use lib.ListN.{length}
 use Rattle.tape.proofs.Tests.{lacks, has}
 use Rattle.encode.specs.Put.{baseOf}
 use Rattle.encode.specs.Size.{headSize}
+use Rattle.encode.specs.SizeLaws.{head-some}
 use Rattle.encode.proofs.Heads.{headed-length, headed-sets}
 use Rattle.encode.proofs.Putting.{refused, written}
 use borrow.Author.Needs.{needs}
@@ -37,8 +38,8 @@ write-head-requires c κs = omega (arith, room (c .before))
 write-bytes-requires : tie.Need-write-bytes-requires
 write-bytes-requires c κs = search needs
 
-add-result : tie.Need-add-result
-add-result c =
+add-t7 : tie.Need-add-t7
+add-t7 c =
     let h = c .before .before .before .before .before .before .write-head .ensures in
     omega (arith, room (c .before .before .before .before .before .before .before .before), h .0)
 
@@ -52,7 +53,7 @@ returns-2 c =
     let n = headed-length (baseOf (a .base)) s in
     let h = c .before .before .before .before .before .before .write-head .ensures in
     let w = c .before .before .write-bytes .ensures in
-    written _ _ (omega (arith, room (c .before .before .before .before .before .before .before .before))) (omega (arith, h .0)) (w ∙ rw (h .0, h .1) (headed-sets (baseOf (a .base)) s (a .out .now)))
+    written _ _ (omega (arith, head-some (length s))) (omega (arith, room (c .before .before .before .before .before .before .before .before))) (omega (arith, h .0)) (w ∙ rw (h .0, h .1) (headed-sets (baseOf (a .base)) s (a .out .now)))
 
 pub put-headed-spec : {M : Type 1} → statement M
 put-headed-spec =
@@ -63,6 +64,6 @@ put-headed-spec =
     returns
     write-head-requires
     write-bytes-requires
-    add-result
+    add-t7
     same-length
     returns-2)

@@ -28,7 +28,7 @@ returns-2 c =
     let a = c .before .before .before .before .before .before .args in
     let n = length-bytesOf (a .size) (a .n) in
     let w = c .before .before .write-number .ensures in
-    written _ _ (omega arith) (omega (arith, w .0)) (w .1)
+    written _ _ (omega arith) (omega arith) (omega (arith, w .0)) (w .1)
 
 pub put-marked-spec : {M : Type 1} → statement M
 put-marked-spec =

@@ -1,7 +1,7 @@
 -- `put_number` writes the number, where there is room.
 use native.Mathlib.Omega.{arith}
 use Rattle.number.specs.BeLaws.{length-bytesOf}
-use Rattle.encode.proofs.Putting.{refused, written}
+use Rattle.encode.proofs.Putting.{none-put, all-put, said}
 use borrow.Author.Needs.{needs}
 use Rattle.encode.proofs.put.put_number.Statement.{statement}
 use Rattle.encode.proofs.put.put_number.Tie as tie
@@ -9,7 +9,7 @@ use Rattle.encode.proofs.put.put_number.Tie as tie
 returns : tie.Need-returns
 returns c =
     let a = c .before .before .args in
-    refused _ _ (omega (arith, length-bytesOf (a .size) (a .n)))
+    said 0 (none-put _ _ (omega (arith, length-bytesOf (a .size) (a .n))))
 
 write-number-requires : tie.Need-write-number-requires
 write-number-requires c κs = search needs
@@ -22,7 +22,7 @@ returns-2 c =
     let a = c .before .before .before .before .before .before .args in
     let n = length-bytesOf (a .size) (a .n) in
     let w = c .before .before .write-number .ensures in
-    written _ _ (omega arith) (omega (arith, w .0)) (w .1)
+    said 0 (all-put _ _ (omega arith) (omega (arith, w .0)) (w .1))
 
 pub put-number-spec : {M : Type 1} → statement M
 put-number-spec = tie.close (tie.spec returns write-number-requires same-length returns-2)

@@ -16,7 +16,7 @@ same-length : tie.Need-same-length
 same-length c = search needs
 
 returns-2 : tie.Need-returns-2
-returns-2 c = written _ _ (omega arith) refl refl
+returns-2 c = written _ _ (omega arith) (omega arith) refl refl
 
 pub put-token-spec : {M : Type 1} → statement M
 put-token-spec = tie.close (tie.spec returns slice-write-out same-length returns-2)

@@ -15,25 +15,25 @@ returns c =
     let a = c .before .before .before .before .args in
     utf16-short (a .units) (a .text .now) (a .out .now) (omega (arith, c .before .head-size .ensures))
 
-sub-utf8-to-utf16-unchecked : tie.Need-sub-utf8-to-utf16-unchecked
-sub-utf8-to-utf16-unchecked c = search needs
+sub-utf8-to-utf16 : tie.Need-sub-utf8-to-utf16
+sub-utf8-to-utf16 c = search needs
 
-part-utf8-to-utf16-unchecked-start : tie.Need-part-utf8-to-utf16-unchecked-start
-part-utf8-to-utf16-unchecked-start c = search needs
+part-utf8-to-utf16-start : tie.Need-part-utf8-to-utf16-start
+part-utf8-to-utf16-start c = search needs
 
-part-utf8-to-utf16-unchecked-end : tie.Need-part-utf8-to-utf16-unchecked-end
-part-utf8-to-utf16-unchecked-end c = search needs
+part-utf8-to-utf16-end : tie.Need-part-utf8-to-utf16-end
+part-utf8-to-utf16-end c = search needs
 
-utf8-to-utf16-unchecked-requires : tie.Need-utf8-to-utf16-unchecked-requires
-utf8-to-utf16-unchecked-requires c κs = search needs
+utf8-to-utf16-requires : tie.Need-utf8-to-utf16-requires
+utf8-to-utf16-requires c κs = search needs
 
 -- what is known once the text is changed
 changing : (c : tie.After-slice-known2) →
     let a = c .before .before .before .before .before .before .before .before .args in
-    let u = c .before .before .utf8-to-utf16-unchecked in
+    let u = c .before .before .utf8-to-utf16 in
     Changing (a .out .now) (a .units) (a .text .now) (c .before .before .before .before .before .head-size .result) (u .result) (u .last .1 .0)
 changing c =
-    let u = c .before .before .utf8-to-utf16-unchecked .ensures in
+    let u = c .before .before .utf8-to-utf16 .ensures in
     record { is = c .before .before .before .before .before .head-size .ensures; within = c .before .before .before .before .if1 .left; answer = u .0; memory = u .1 }
 
 enum-known-length : tie.Need-enum-known-length
@@ -42,8 +42,8 @@ enum-known-length c = search needs
 write-head-requires : tie.Need-write-head-requires
 write-head-requires c κs = search needs
 
-add-result : tie.Need-add-result
-add-result c = omega (arith, utf16-fits (rw (c .before .before .before .before .before .length .given .1) at (changing (c .before .before .before .before .before .before .before))))
+add-t13 : tie.Need-add-t13
+add-t13 c = omega (arith, utf16-fits (rw (c .before .before .before .before .before .length .given .1) at (changing (c .before .before .before .before .before .before .before))))
 
 enum-told : tie.Need-enum-told
 enum-told c = search needs
@@ -76,13 +76,13 @@ put-utf16-spec =
     (tie.spec
     head-size-requires
     returns
-    sub-utf8-to-utf16-unchecked
-    part-utf8-to-utf16-unchecked-start
-    part-utf8-to-utf16-unchecked-end
-    utf8-to-utf16-unchecked-requires
+    sub-utf8-to-utf16
+    part-utf8-to-utf16-start
+    part-utf8-to-utf16-end
+    utf8-to-utf16-requires
     enum-known-length
     write-head-requires
-    add-result
+    add-t13
     enum-told
     enum-told-2
     same-length

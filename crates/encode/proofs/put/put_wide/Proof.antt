@@ -30,7 +30,7 @@ returns-2 c =
     let n = length-bytesOf 16 (a .n) in
     let w = c .before .before .before .before .before .before .write-between .ensures in
     let v = c .before .before .write-between2 .ensures in
-    written _ _ (omega arith) (omega (arith, v .0)) (v .1 ∙ rw (w .1) (wide-sets (set (a .out .now) 0 0x14) 1 (a .n) (omega arith)))
+    written _ _ (omega arith) (omega arith) (omega (arith, v .0)) (v .1 ∙ rw (w .1) (wide-sets (set (a .out .now) 0 0x14) 1 (a .n) (omega arith)))
 
 pub put-wide-spec : {M : Type 1} → statement M
 put-wide-spec =

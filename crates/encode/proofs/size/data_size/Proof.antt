@@ -14,34 +14,28 @@ enum-known-length c = search needs
 enum-told : tie.Need-enum-told
 enum-told c = search needs
 
-bytes-alone-requires : tie.Need-bytes-alone-requires
-bytes-alone-requires c κs = search needs
-
 returns : tie.Need-returns
 unfolding dataSize
-returns c = rw (c .before .enum-told .given .1) (c .bytes-alone .ensures)
+returns c = rw (c .enum-told .given .1)
 
 lacks-room-requires : tie.Need-lacks-room-requires
 lacks-room-requires c κs = search needs
 
-bytes-alone-requires-2 : tie.Need-bytes-alone-requires-2
-bytes-alone-requires-2 c κs = search needs
-
 returns-2 : tie.Need-returns-2
 unfolding dataSize
-returns-2 c = rw (c .before .before .before .before .length .given .1, sym (c .before .before .lacks-room .ensures) ∙ c .before .if1 .taken) (c .bytes-alone2 .ensures)
+returns-2 c = rw (c .before .before .before .length .given .1, sym (c .before .lacks-room .ensures) ∙ c .if1 .taken)
 
 run-size-requires : tie.Need-run-size-requires
 run-size-requires c κs =
     let v = c .before .before .before .length .given .0 in
     omega (arith, ltb-false (c .before .before .before .before .before .args .end) (v .1 .0 + v .0) (sym (c .before .lacks-room .ensures) ∙ c .if1 .left))
 
-bytes-alone-requires-3 : tie.Need-bytes-alone-requires-3
-bytes-alone-requires-3 c κs = search needs
+bytes-alone-requires : tie.Need-bytes-alone-requires
+bytes-alone-requires c κs = search needs
 
 returns-3 : tie.Need-returns-3
 unfolding dataSize
-returns-3 c = rw (c .before .before .before .before .before .length .given .1, sym (c .before .before .before .lacks-room .ensures) ∙ c .before .before .if1 .left, ← c .before .run-size .ensures) (c .bytes-alone3 .ensures)
+returns-3 c = rw (c .before .before .before .before .before .length .given .1, sym (c .before .before .before .lacks-room .ensures) ∙ c .before .before .if1 .left, ← c .before .run-size .ensures) (c .bytes-alone .ensures)
 
 pub data-size-spec : {M : Type 1} → statement M
 data-size-spec =
@@ -49,11 +43,9 @@ data-size-spec =
     (tie.spec
     enum-known-length
     enum-told
-    bytes-alone-requires
     returns
     lacks-room-requires
-    bytes-alone-requires-2
     returns-2
     run-size-requires
-    bytes-alone-requires-3
+    bytes-alone-requires
     returns-3)

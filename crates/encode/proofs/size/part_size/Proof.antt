@@ -24,12 +24,9 @@ returns c = rw (sym (c .before .before .before .is-ascii .ensures) ∙ c .before
 units-in-requires : tie.Need-units-in-requires
 units-in-requires c κs = search needs
 
-bytes-alone-requires-2 : tie.Need-bytes-alone-requires-2
-bytes-alone-requires-2 c κs = search needs
-
 returns-2 : tie.Need-returns-2
 unfolding partSize
-returns-2 c = rw (sym (c .before .before .before .before .is-ascii .ensures) ∙ c .before .before .before .if1 .left, ← c .before .before .units-in .ensures, lt-ltb _ _ (c .before .if2 .taken)) (c .bytes-alone2 .ensures)
+returns-2 c = rw (sym (c .before .before .before .is-ascii .ensures) ∙ c .before .before .if1 .left, ← c .before .units-in .ensures, lt-ltb _ _ (c .if2 .taken))
 
 head-size-requires : tie.Need-head-size-requires
 head-size-requires c κs = search needs
@@ -53,7 +50,6 @@ part-size-spec =
     bytes-alone-requires
     returns
     units-in-requires
-    bytes-alone-requires-2
     returns-2
     head-size-requires
     mul-t8

@@ -24,22 +24,16 @@ enum-known-n c = search needs
 enum-told : tie.Need-enum-told
 enum-told c = search needs
 
-bytes-alone-requires : tie.Need-bytes-alone-requires
-bytes-alone-requires c κs = search needs
-
 returns : tie.Need-returns
 unfolding textSize
-returns c = rw (← c .before .before .before .number-at .ensures, c .before .enum-told .given .1) (c .bytes-alone .ensures)
+returns c = rw (← c .before .before .number-at .ensures, c .enum-told .given .1)
 
 lacks-room-requires : tie.Need-lacks-room-requires
 lacks-room-requires c κs = search needs
 
-bytes-alone-requires-2 : tie.Need-bytes-alone-requires-2
-bytes-alone-requires-2 c κs = search needs
-
 returns-2 : tie.Need-returns-2
 unfolding textSize
-returns-2 c = rw (← c .before .before .before .before .before .before .number-at .ensures, c .before .before .before .before .n .given .1, sym (c .before .before .lacks-room .ensures) ∙ c .before .if1 .taken) (c .bytes-alone2 .ensures)
+returns-2 c = rw (← c .before .before .before .before .before .number-at .ensures, c .before .before .before .n .given .1, sym (c .before .lacks-room .ensures) ∙ c .if1 .taken)
 
 -- the bytes lie within the tape
 room : (c : tie.Else1) → let v = c .before .before .before .n .given .0 in v .1 .0 + v .0 ≤ length (c .before .before .before .before .before .before .before .args .tape .now)
@@ -88,10 +82,8 @@ text-size-spec =
     number-at-requires
     enum-known-n
     enum-told
-    bytes-alone-requires
     returns
     lacks-room-requires
-    bytes-alone-requires-2
     returns-2
     add-end
     sub-part-size

@@ -12,12 +12,9 @@ enum-known-number c = search needs
 enum-told : tie.Need-enum-told
 enum-told c = search needs
 
-bytes-alone-requires : tie.Need-bytes-alone-requires
-bytes-alone-requires c κs = search needs
-
 returns : tie.Need-returns
 unfolding uidSize
-returns c = rw (c .before .enum-told .given .1) (c .bytes-alone .ensures)
+returns c = rw (c .enum-told .given .1)
 
 size-for-requires : tie.Need-size-for-requires
 size-for-requires c κs = search needs
@@ -25,12 +22,12 @@ size-for-requires c κs = search needs
 add-bytes-alone : tie.Need-add-bytes-alone
 add-bytes-alone c = omega (arith, c .size-for .ensures, sized-le (sized (c .before .before .number .given .0 .0)))
 
-bytes-alone-requires-2 : tie.Need-bytes-alone-requires-2
-bytes-alone-requires-2 c κs = search needs
+bytes-alone-requires : tie.Need-bytes-alone-requires
+bytes-alone-requires c κs = search needs
 
 returns-2 : tie.Need-returns-2
 unfolding uidSize
-returns-2 c = rw (c .before .before .before .number .given .1, ← c .before .size-for .ensures) (c .bytes-alone2 .ensures)
+returns-2 c = rw (c .before .before .before .number .given .1, ← c .before .size-for .ensures) (c .bytes-alone .ensures)
 
 pub uid-size-spec : {M : Type 1} → statement M
 uid-size-spec =
@@ -38,9 +35,8 @@ uid-size-spec =
     (tie.spec
     enum-known-number
     enum-told
-    bytes-alone-requires
     returns
     size-for-requires
     add-bytes-alone
-    bytes-alone-requires-2
+    bytes-alone-requires
     returns-2)

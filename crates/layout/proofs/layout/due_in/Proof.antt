@@ -1,5 +1,7 @@
 -- `due_in` is what is due in the container that stands there, by what it is.
+use mathlib.Core.Path.{ap}
 use Rattle.layout.specs.Layout.{dueIn}
+use Rattle.layout.specs.Said.{dueSaid}
 use borrow.Author.Needs.{needs}
 use Rattle.layout.proofs.layout.due_in.Statement.{statement}
 use Rattle.layout.proofs.layout.due_in.Tie as tie
@@ -25,11 +27,11 @@ returns c = rw (c .enum-told .given .1)
 
 returns-2 : tie.Need-returns-2
 unfolding dueIn
-returns-2 c = rw (c .before .before .container .given .1) (c .due-in-array .ensures)
+returns-2 c = rw (c .before .before .container .given .1) (ap dueSaid (c .due-in-array .ensures))
 
 returns-3 : tie.Need-returns-3
 unfolding dueIn
-returns-3 c = rw (c .before .before .container2 .given .1) (c .due-in-dictionary .ensures)
+returns-3 c = rw (c .before .before .container2 .given .1) (ap dueSaid (c .due-in-dictionary .ensures))
 
 pub due-in-spec : {M : Type 1} → statement M
 due-in-spec =

@@ -4,11 +4,12 @@ use borrow.Author.Needs.{needs}
 use borrow.Author.Tests.{le-ltb, lt-ltb}
 use Rattle.object.specs.Found.{foundOf}
 use Rattle.object.specs.Object.{Found, refusedBy}
+use Rattle.object.specs.Refusal.{numberOf as objectNumber, valuesOf as objectValues}
 use Rattle.layout.specs.Bytes.{lookedBytes}
 use Rattle.layout.specs.FoundLaws.{foundBytes}
 use Rattle.layout.specs.Layout.{lookOf, lookFrom, lookIn}
 use Rattle.layout.specs.Looked.{withPlace}
-use Rattle.layout.specs.Said.{lookSaid, lookBytes, askedSaid, shapeSaid, numberOf, valuesOf}
+use Rattle.layout.specs.Said.{lookSaid, lookBytes, spanSaid, shapeSaid, numberOf, valuesOf}
 use Rattle.layout.proofs.Looks.{looks}
 use Rattle.layout.proofs.lookup.look_up.Statement.{statement}
 use Rattle.layout.proofs.lookup.look_up.Tie as tie
@@ -59,9 +60,6 @@ enum-told-2 c = search needs
 enum-known-refusal : tie.Need-enum-known-refusal
 enum-known-refusal c = search needs
 
-refusal-of-requires : tie.Need-refusal-of-requires
-refusal-of-requires c κs = search needs
-
 enum-known-event : tie.Need-enum-known-event
 enum-known-event c = search needs
 
@@ -81,37 +79,35 @@ enum-known-length-2 : tie.Need-enum-known-length-2
 enum-known-length-2 c = search needs
 
 returns-3 : tie.Need-returns-3
-unfolding withPlace lookIn foundBytes lookSaid lookBytes askedSaid shapeSaid foundOf numberOf valuesOf
+unfolding withPlace lookIn foundBytes lookSaid lookBytes spanSaid shapeSaid foundOf numberOf valuesOf objectNumber objectValues
 returns-3 c = says (c .before .before) _ (ap foundOf (c .enum-told2 .given .1))
 
 returns-4 : tie.Need-returns-4
-unfolding withPlace lookIn foundBytes lookSaid lookBytes askedSaid shapeSaid foundOf refusedBy numberOf valuesOf
-returns-4 c =
-    let w = says (c .before .before .before .before) _ (ap foundOf (c .before .before .refusal .given .1)) in
-    (rw (c .refusal-of .ensures .number, c .refusal-of .ensures .values) (w .0), w .1)
+unfolding withPlace lookIn foundBytes lookSaid lookBytes spanSaid shapeSaid foundOf refusedBy numberOf valuesOf
+returns-4 c = says (c .before .before .before) _ (ap foundOf (c .before .refusal .given .1))
 
 returns-5 : tie.Need-returns-5
-unfolding withPlace lookIn foundBytes lookSaid lookBytes askedSaid shapeSaid foundOf numberOf valuesOf
+unfolding withPlace lookIn foundBytes lookSaid lookBytes spanSaid shapeSaid foundOf numberOf valuesOf
 returns-5 c = says (c .before .before .before) _ (ap foundOf (c .before .event .given .1))
 
 returns-6 : tie.Need-returns-6
-unfolding withPlace lookIn foundBytes lookSaid lookBytes askedSaid shapeSaid foundOf numberOf valuesOf
+unfolding withPlace lookIn foundBytes lookSaid lookBytes spanSaid shapeSaid foundOf numberOf valuesOf
 returns-6 c = says (c .before .before .before) _ (ap foundOf (c .before .part .given .1))
 
 returns-7 : tie.Need-returns-7
-unfolding withPlace lookIn foundBytes lookSaid lookBytes askedSaid shapeSaid foundOf numberOf valuesOf
+unfolding withPlace lookIn foundBytes lookSaid lookBytes spanSaid shapeSaid foundOf numberOf valuesOf
 returns-7 c = says (c .before .before .before) _ (ap foundOf (c .before .part2 .given .1))
 
 returns-8 : tie.Need-returns-8
-unfolding withPlace lookIn foundBytes lookSaid lookBytes askedSaid shapeSaid foundOf numberOf valuesOf
+unfolding withPlace lookIn foundBytes lookSaid lookBytes spanSaid shapeSaid foundOf numberOf valuesOf
 returns-8 c = says (c .before .before .before) _ (ap foundOf (c .before .part3 .given .1))
 
 returns-9 : tie.Need-returns-9
-unfolding withPlace lookIn foundBytes lookSaid lookBytes askedSaid shapeSaid foundOf numberOf valuesOf
+unfolding withPlace lookIn foundBytes lookSaid lookBytes spanSaid shapeSaid foundOf numberOf valuesOf
 returns-9 c = says (c .before .before .before) _ (ap foundOf (c .before .length .given .1))
 
 returns-10 : tie.Need-returns-10
-unfolding withPlace lookIn foundBytes lookSaid lookBytes askedSaid shapeSaid foundOf numberOf valuesOf
+unfolding withPlace lookIn foundBytes lookSaid lookBytes spanSaid shapeSaid foundOf numberOf valuesOf
 returns-10 c = says (c .before .before .before) _ (ap foundOf (c .before .length2 .given .1))
 
 pub look-up-spec : {M : Type 1} → statement M
@@ -128,7 +124,6 @@ look-up-spec =
     object-at-requires
     enum-told-2
     enum-known-refusal
-    refusal-of-requires
     enum-known-event
     enum-known-part
     enum-known-part-2

@@ -5,6 +5,7 @@ use borrow.Author.Tests.{le-leb, lt-leb}
 use lib.ListN.{length}
 use Rattle.number.specs.Width.{bytesIn}
 use Rattle.number.specs.WidthLaws.{bytesIn-pos}
+use Rattle.object.specs.Refusal.{numberOf as objectNumber, valuesOf as objectValues}
 use Rattle.layout.specs.Said.{trailerSaid, numberOf, valuesOf}
 use Rattle.layout.specs.Trailer.{tableOf, eightAt}
 use Rattle.layout.proofs.Numbers.{table-in, table-past, count-le}
@@ -34,7 +35,7 @@ eight-at-requires-3 : tie.Need-eight-at-requires-3
 eight-at-requires-3 c κs = search needs
 
 returns : tie.Need-returns
-unfolding trailerSaid numberOf valuesOf tableOf eightAt
+unfolding trailerSaid numberOf valuesOf objectNumber objectValues tableOf eightAt
 returns c =
     let a = c .before .before .before .before .before .args in
     let e = c .before .before .before .eight-at .ensures in
@@ -52,7 +53,7 @@ div-if2 : tie.Need-div-if2
 div-if2 c = rw (c .bytes-in .ensures) (bytesIn-pos (c .before .before .before .before .before .before .args .offsets))
 
 returns-2 : tie.Need-returns-2
-unfolding trailerSaid numberOf valuesOf tableOf eightAt
+unfolding trailerSaid numberOf valuesOf objectNumber objectValues tableOf eightAt
 returns-2 c =
     let a = c .before .before .before .before .before .before .before .args in
     let e = c .before .before .before .before .before .eight-at .ensures in
@@ -61,13 +62,13 @@ returns-2 c =
     table-past _ _ (bytesIn (a .offsets)) _ (bytesIn-pos (a .offsets)) (omega arith) (rw (c .before .bytes-in .ensures) at (c .if2 .taken)) in
     rw (← e, ← t, lt-leb _ _ h)
 
-cast-t16 : tie.Need-cast-t16
-cast-t16 c =
+cast-t18 : tie.Need-cast-t18
+cast-t18 c =
     let a = c .before .before .before .before .before .before .before .args in
     omega (arith, count-le (c .before .before .before .eight-at3 .result) (c .before .before .before .before .before .eight-at .result) (bytesIn (a .offsets)) (length (a .file .now) - 32) (bytesIn-pos (a .offsets)) (omega arith) (rw (c .before .bytes-in .ensures) at (c .if2 .left)))
 
-cast-t17 : tie.Need-cast-t17
-cast-t17 c = search needs
+cast-t19 : tie.Need-cast-t19
+cast-t19 c = search needs
 
 returns-3 : tie.Need-returns-3
 unfolding trailerSaid tableOf eightAt
@@ -96,6 +97,6 @@ read-table-spec =
     bytes-in-requires
     div-if2
     returns-2
-    cast-t16
-    cast-t17
+    cast-t18
+    cast-t19
     returns-3)

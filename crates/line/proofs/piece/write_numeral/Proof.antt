@@ -1,13 +1,13 @@
--- `write_numeral` writes a space, then the sign and the digits or the day and time.
-use mathlib.Core.Path.{_≡_, _∙_}
-use Prim.Native.Nat.{_+_, _≤_}
+-- `write_numeral` writes a space, then the number or the day and time.
+use mathlib.Core.Path.{sym, ap, _∙_}
 use native.Mathlib.Omega.{arith}
-use borrow.Author.Needs.{needs}
 use lib.ListN.{length, length-set}
-use Rattle.line.specs.Line.{plus, minus, decimal}
-use Rattle.line.specs.LineLaws.{length-stamp}
+use Rattle.digits.specs.PutLaws.{written-nil, length-put}
+use Rattle.digits.specs.StampLaws.{length-stamp}
+use Rattle.line.specs.Line.{spaced}
 use Rattle.line.specs.Piece.{numeralOf}
-use Rattle.line.proofs.Written.{written-nil, written-cons, written-length}
+use Rattle.line.proofs.Spaced.{spaced-written}
+use borrow.Author.Needs.{needs}
 use Rattle.line.proofs.piece.write_numeral.Statement.{statement}
 use Rattle.line.proofs.piece.write_numeral.Tie as tie
 
@@ -17,86 +17,102 @@ enum-told c = search needs
 enum-known-number : tie.Need-enum-known-number
 enum-known-number c = search needs
 
--- the room of a space, a sign and the digits
-room : (c : tie.After-known-told) → c .before .before .before .before .args .at + 1 + length (decimal (c .before .number .given .0 .0)) ≤ length (c .before .before .before .before .args .out .now)
-unfolding numeralOf plus
-room c = omega (arith, rw (c .before .number .given .1) at (c .before .before .before .before .pre))
-
-room-2 : (c : tie.After-known-told2) → c .before .before .before .before .args .at + 2 + length (decimal (c .before .number2 .given .0 .0)) ≤ length (c .before .before .before .before .args .out .now)
-unfolding numeralOf minus
-room-2 c = omega (arith, rw (c .before .number2 .given .1) at (c .before .before .before .before .pre))
-
 slice-write-out : tie.Need-slice-write-out
-slice-write-out c = omega (arith, room c)
+unfolding numeralOf spaced
+slice-write-out c = omega (arith, rw (c .before .number .given .1) at (c .before .before .before .before .pre))
 
-add-write-decimal : tie.Need-add-write-decimal
-add-write-decimal c = omega (arith, room (c .before))
+add-put-decimal : tie.Need-add-put-decimal
+add-put-decimal c = search needs
 
-write-decimal-requires : tie.Need-write-decimal-requires
-write-decimal-requires c κs = rw length-set (room (c .before))
+put-decimal-requires : tie.Need-put-decimal-requires
+put-decimal-requires c κs = search needs
+
+add-result : tie.Need-add-result
+add-result c = search needs
+
+decimal-length-requires : tie.Need-decimal-length-requires
+decimal-length-requires c κs = search needs
+
+add-result-2 : tie.Need-add-result-2
+add-result-2 c = search needs
 
 enum-known-number-2 : tie.Need-enum-known-number-2
 enum-known-number-2 c = search needs
 
 slice-write-out-2 : tie.Need-slice-write-out-2
-slice-write-out-2 c = omega (arith, room-2 c)
+unfolding numeralOf spaced
+slice-write-out-2 c = omega (arith, rw (c .before .number2 .given .1) at (c .before .before .before .before .pre))
 
-add-out : tie.Need-add-out
-add-out c = omega (arith, room-2 c)
+add-put-signed : tie.Need-add-put-signed
+add-put-signed c = search needs
 
-slice-write-out-3 : tie.Need-slice-write-out-3
-slice-write-out-3 c = rw length-set (omega (arith, room-2 c))
+put-signed-requires : tie.Need-put-signed-requires
+put-signed-requires c κs = search needs
 
-add-write-decimal-2 : tie.Need-add-write-decimal-2
-add-write-decimal-2 c = omega (arith, room-2 (c .before))
+add-result-3 : tie.Need-add-result-3
+add-result-3 c = search needs
 
-write-decimal-requires-2 : tie.Need-write-decimal-requires-2
-write-decimal-requires-2 c κs = simp length-set (room-2 (c .before))
+signed-length-requires : tie.Need-signed-length-requires
+signed-length-requires c κs = search needs
+
+add-result-4 : tie.Need-add-result-4
+add-result-4 c = search needs
 
 enum-known-number-3 : tie.Need-enum-known-number-3
 enum-known-number-3 c = search needs
 
--- the room of a space, a day and a time
-room-3 : (c : tie.After-known-told3) → c .before .before .before .before .args .at + 21 ≤ length (c .before .before .before .before .args .out .now)
-unfolding numeralOf
-room-3 c = omega (arith, rw (c .before .number3 .given .1) at (c .before .before .before .before .pre), length-stamp (c .before .number3 .given .0 .0))
+slice-write-out-3 : tie.Need-slice-write-out-3
+unfolding numeralOf spaced
+slice-write-out-3 c = omega (arith, rw (c .before .number3 .given .1) at (c .before .before .before .before .pre))
 
-slice-write-out-4 : tie.Need-slice-write-out-4
-slice-write-out-4 c = omega (arith, room-3 c)
+add-put-stamp : tie.Need-add-put-stamp
+add-put-stamp c = search needs
 
-add-write-stamp : tie.Need-add-write-stamp
-add-write-stamp c = omega (arith, room-3 (c .before))
+put-stamp-requires : tie.Need-put-stamp-requires
+put-stamp-requires c κs = search needs
 
-write-stamp-requires : tie.Need-write-stamp-requires
-write-stamp-requires c κs = rw length-set (omega (arith, room-3 (c .before)))
+add-result-5 : tie.Need-add-result-5
+add-result-5 c = search needs
+
+add-result-6 : tie.Need-add-result-6
+add-result-6 c = search needs
 
 returns : tie.Need-returns
 unfolding numeralOf
 returns c = rw (c .enum-told .given .1) (written-nil _ _)
 
 same-length : tie.Need-same-length
-same-length c = written-length (c .before .before .write-decimal .ensures) ∙ simp length-set
+same-length c = ap length (c .before .before .before .put-decimal .ensures .1) ∙ length-put _ _ _ ∙ simp length-set
 
 returns-2 : tie.Need-returns-2
-unfolding numeralOf plus
-returns-2 c = rw (c .before .before .before .before .before .number .given .1) (written-cons _ _ 32 (c .before .before .write-decimal .ensures))
+unfolding numeralOf
+returns-2 c =
+    let n = c .before .before .before .before .before .before .number .given in
+    rw (n .1)
+    (spaced-written _ _ _ _ _ (rw (n .1) at (c .before .before .before .before .before .before .before .before .before .pre))
+    (c .before .before .before .put-decimal .ensures .1) (c .decimal-length .ensures .0))
 
 same-length-2 : tie.Need-same-length-2
-same-length-2 c = written-length (c .before .before .write-decimal2 .ensures) ∙ simp length-set
+same-length-2 c = ap length (c .before .before .before .put-signed .ensures .1) ∙ length-put _ _ _ ∙ simp length-set
 
 returns-3 : tie.Need-returns-3
-unfolding numeralOf minus
+unfolding numeralOf
 returns-3 c =
-    let at = c .before .before .before .before .before .before .before .before .args .at in
-    let e : at + 2 ≡ at + 1 + 1 = omega arith in
-    rw (c .before .before .before .before .before .number2 .given .1) (written-cons _ _ 32 (written-cons _ _ 45 (rw e at (c .before .before .write-decimal2 .ensures))))
+    let n = c .before .before .before .before .before .before .number2 .given in
+    rw (n .1)
+    (spaced-written _ _ _ _ _ (rw (n .1) at (c .before .before .before .before .before .before .before .before .before .pre))
+    (c .before .before .before .put-signed .ensures .1) (c .signed-length .ensures .0))
 
 same-length-3 : tie.Need-same-length-3
-same-length-3 c = written-length (c .before .before .write-stamp .ensures) ∙ simp length-set
+same-length-3 c = ap length (c .before .before .put-stamp .ensures .1) ∙ length-put _ _ _ ∙ simp length-set
 
 returns-4 : tie.Need-returns-4
 unfolding numeralOf
-returns-4 c = rw (c .before .before .before .before .before .number3 .given .1) (written-cons _ _ 32 (c .before .before .write-stamp .ensures))
+returns-4 c =
+    let n = c .before .before .before .before .before .number3 .given in
+    rw (n .1)
+    (spaced-written _ _ _ _ _ (rw (n .1) at (c .before .before .before .before .before .before .before .before .pre))
+    (c .before .before .put-stamp .ensures .1) (sym (length-stamp _)))
 
 pub write-numeral-spec : {M : Type 1} → statement M
 write-numeral-spec =
@@ -105,18 +121,24 @@ write-numeral-spec =
     enum-told
     enum-known-number
     slice-write-out
-    add-write-decimal
-    write-decimal-requires
+    add-put-decimal
+    put-decimal-requires
+    add-result
+    decimal-length-requires
+    add-result-2
     enum-known-number-2
     slice-write-out-2
-    add-out
-    slice-write-out-3
-    add-write-decimal-2
-    write-decimal-requires-2
+    add-put-signed
+    put-signed-requires
+    add-result-3
+    signed-length-requires
+    add-result-4
     enum-known-number-3
-    slice-write-out-4
-    add-write-stamp
-    write-stamp-requires
+    slice-write-out-3
+    add-put-stamp
+    put-stamp-requires
+    add-result-5
+    add-result-6
     returns
     same-length
     returns-2

@@ -5,7 +5,7 @@ use native.Mathlib.Omega.{arith}
 use lib.ListN.{length, length-set}
 use Rattle.line.specs.Line.{hex}
 use Rattle.line.specs.LineLaws.{tail-none, tail-some}
-use Rattle.line.proofs.Written.{written-nil, written-cons, written-length}
+use Rattle.digits.specs.PutLaws.{written-nil, written-cons, written-length}
 use Rattle.line.proofs.piece.write_tail.Statement.{statement}
 use Rattle.line.proofs.piece.write_tail.Tie as tie
 

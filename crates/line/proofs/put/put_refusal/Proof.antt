@@ -1,13 +1,17 @@
 -- `put_refusal` writes the line where it was measured to fit, and nothing where not.
-
-use Rattle.line.specs.Line.{refusalLine, plus, word-at, tail}
 use mathlib.Core.List.{[]}
-use mathlib.Core.Path.{refl, _∙_}
+use mathlib.Core.Path.{_≡_, refl, sym, _∙_}
+use Prim.Native.Nat.{_+_, _≤_}
 use native.Mathlib.Omega.{arith}
+use borrow.Author.Tests.{leb-true}
+use lib.ListN.{length}
+use Rattle.digits.specs.Ascii.{ascii}
+use Rattle.digits.specs.Digits.{decimal}
+use Rattle.digits.specs.Put.{Written}
+use Rattle.digits.specs.PutLaws.{put-fits, put-unfit, written-append, written-length}
+use Rattle.line.specs.Line.{refusalLine, spaced, tail}
 use Rattle.line.specs.LineLaws.{length-row, length-refusal}
-use Rattle.line.specs.Piece.{numeralOf, spaceOf}
-use Rattle.line.specs.PutLaws.{put-whole, put-none}
-use Rattle.line.proofs.Written.{written-append, written-length}
+use Rattle.line.specs.Piece.{numeralOf, spaceOf, lineSize}
 use borrow.Author.Needs.{needs}
 use Rattle.line.proofs.put.put_refusal.Statement.{statement}
 use Rattle.line.proofs.put.put_refusal.Tie as tie
@@ -25,65 +29,65 @@ has-room-requires : tie.Need-has-room-requires
 has-room-requires c κs = search needs
 
 slice-aggregate-write-bytes : tie.Need-slice-aggregate-write-bytes
-slice-aggregate-write-bytes c = refl
+slice-aggregate-write-bytes c = search needs
 
 write-bytes-requires : tie.Need-write-bytes-requires
+write-bytes-requires c κs = search needs
+
+-- what was measured is as long as the line
+measured : (c : tie.After-has-room) → let a = c .before .before .before .before .args in lineSize 10 (c .before .before .numeral-length .result + c .before .numeral-length2 .result) 0 ≡ length (refusalLine (a .number) (a .place))
 unfolding numeralOf spaceOf
-write-bytes-requires c κs =
-    let r = c .before .before .before in
-    let a = r .before .before .before .before .args in
-    let d = r .before .before .numeral-length .ensures .0 in
-    let e = r .before .numeral-length2 .ensures .0 in
-    omega (arith, r .has-room .ensures .yes (c .before .before .if1 .taken), length-refusal (a .number) (a .place), d, e)
+measured c =
+    let a = c .before .before .before .before .args in
+    omega (arith, length-refusal (a .number) (a .place), c .before .before .numeral-length .ensures .0, c .before .numeral-length2 .ensures .0)
+
+-- it fits
+room : (c : tie.Then1) → let a = c .before .before .before .before .before .args in a .at + (length (spaced (decimal (a .number))) + length (spaced (decimal (a .place))) + 11) ≤ length (a .out .now)
+room c =
+    let a = c .before .before .before .before .before .args in
+    rw (← length-refusal (a .number) (a .place), ← measured (c .before)) (leb-true _ _ (sym (c .before .has-room .ensures) ∙ c .if1 .taken))
+
+-- where the word is written
+abbrev fitting : tie.After-write-numeral-arg → tie.Then1
+fitting c = c .before .before .before .before .before .before
+
+word : (c : tie.After-write-numeral-arg) → let a = fitting c .before .before .before .before .before .args in Written (a .out .now) (a .at) (ascii "refused") (c .before .before .before .write-bytes .last .0) (a .at + 7)
+word c = record { place = refl; memory = c .before .before .before .write-bytes .ensures }
+
+add-write-numeral : tie.Need-add-write-numeral
+add-write-numeral c = omega (arith, room (fitting c))
 
 write-numeral-requires : tie.Need-write-numeral-requires
-unfolding numeralOf spaceOf
-write-numeral-requires c κs =
-    let r = c .before .before .before .before .before .before .before in
-    let a = r .before .before .before .before .args in
-    let d = r .before .before .numeral-length .ensures .0 in
-    let e = r .before .numeral-length2 .ensures .0 in
-    let w = c .before .before .before .write-bytes .ensures in
-    omega (arith, r .has-room .ensures .yes (c .before .before .before .before .before .before .if1 .taken), length-refusal (a .number) (a .place), d, e, w .place, written-length w)
+unfolding numeralOf
+write-numeral-requires c κs = omega (arith, room (fitting c), written-length (word c))
 
 slice-aggregate-write-row : tie.Need-slice-aggregate-write-row
-slice-aggregate-write-row c = refl
+slice-aggregate-write-row c = search needs
 
 slice-aggregate-write-row-2 : tie.Need-slice-aggregate-write-row-2
-slice-aggregate-write-row-2 c = refl
+slice-aggregate-write-row-2 c = search needs
 
 write-row-requires : tie.Need-write-row-requires
-unfolding numeralOf spaceOf tail
+unfolding numeralOf tail
 write-row-requires c κs =
-    let r = c .before .before .before .before .before .before .before .before .before .before .before .before .before in
-    let a = r .before .before .before .before .args in
-    let d = r .before .before .numeral-length .ensures .0 in
-    let e = r .before .numeral-length2 .ensures .0 in
-    let w = c .before .before .before .before .before .before .before .before .before .write-bytes .ensures in
+    let w = c .before .before .before .before .before .before in
     let n = c .before .before .before .before .before .write-numeral .ensures in
-    omega (arith, r .has-room .ensures .yes (c .before .before .before .before .before .before .before .before .before .before .before .before .if1 .taken), length-refusal (a .number) (a .place), d, e, length-row word-at (plus (a .place)) [], w .place, written-length w, n .place, written-length n)
+    omega (arith, room (fitting w), length-row (ascii " at") (spaced (decimal (fitting w .before .before .before .before .before .args .place))) [], n .place, written-length n, written-length (word w))
 
 same-length : tie.Need-same-length
-same-length c = written-length (c .before .before .write-row .ensures) ∙ written-length (c .before .before .before .before .before .before .before .before .write-numeral .ensures) ∙ written-length (c .before .before .before .before .before .before .before .before .before .before .before .before .write-bytes .ensures)
+same-length c = search needs
 
 returns : tie.Need-returns
-unfolding refusalLine numeralOf spaceOf
+unfolding refusalLine numeralOf
 returns c =
-    let r = c .before .before .before .before .before .before .before .before .before .before .before .before .before .before .before .before in
-    let a = r .before .before .before .before .args in
-    let d = r .before .before .numeral-length .ensures .0 in
-    let e = r .before .numeral-length2 .ensures .0 in
-    put-whole (written-append (c .before .before .before .before .before .before .before .before .before .before .before .before .write-bytes .ensures) (written-append (c .before .before .before .before .before .before .before .before .write-numeral .ensures) (c .before .before .write-row .ensures)))
-    (omega (arith, r .has-room .ensures .yes (c .before .before .before .before .before .before .before .before .before .before .before .before .before .before .before .if1 .taken), length-refusal (a .number) (a .place), d, e))
+    let w = c .before .before .before .before .before .before .before .before .before in
+    let t = fitting w in
+    put-fits _ (measured (t .before))
+    (written-append (word w) (written-append (c .before .before .before .before .before .before .before .before .write-numeral .ensures) (c .before .before .write-row .ensures)))
+    (sym (t .before .has-room .ensures) ∙ t .if1 .taken)
 
 returns-2 : tie.Need-returns-2
-unfolding numeralOf spaceOf
-returns-2 c =
-    let r = c .before in
-    let a = r .before .before .before .before .args in
-    let d = r .before .before .numeral-length .ensures .0 in
-    let e = r .before .numeral-length2 .ensures .0 in
-    put-none _ _ _ (omega (arith, r .has-room .ensures .no (c .if1 .left), length-refusal (a .number) (a .place), d, e))
+returns-2 c = put-unfit _ _ _ _ (measured (c .before)) (sym (c .before .has-room .ensures) ∙ c .if1 .left)
 
 pub put-refusal-spec : {M : Type 1} → statement M
 put-refusal-spec =
@@ -95,6 +99,7 @@ put-refusal-spec =
     has-room-requires
     slice-aggregate-write-bytes
     write-bytes-requires
+    add-write-numeral
     write-numeral-requires
     slice-aggregate-write-row
     slice-aggregate-write-row-2

@@ -1,14 +1,15 @@
 -- `asked_for` answers 1 first, then goes by the record's event.
 use borrow.Author.Tests.{lt-ltb, le-ltb}
 use Rattle.layout.specs.Bytes.{eventAsked}
-use Rattle.layout.specs.Said.{askedSaid, numberOf, valuesOf}
+use Rattle.layout.specs.Said.{numberOf as fileNumber, valuesOf as fileValues}
 use Rattle.reader.specs.Request.{askedOf}
+use Rattle.reader.specs.Said.{numberOf, valuesOf, askedSaid}
 use borrow.Author.Needs.{needs}
 use Rattle.reader.proofs.request.asked_for.Statement.{statement}
 use Rattle.reader.proofs.request.asked_for.Tie as tie
 
 returns : tie.Need-returns
-unfolding askedOf askedSaid numberOf valuesOf
+unfolding askedOf askedSaid numberOf valuesOf fileNumber fileValues
 returns c = rw (lt-ltb _ _ (c .if1 .taken))
 
 enum-told : tie.Need-enum-told

@@ -1,7 +1,7 @@
 -- `end_at` takes any container.
 use mathlib.Core.Path.{sym, _∙_}
 use Rattle.layout.specs.Bytes.{endAsked}
-use Rattle.layout.specs.Said.{askedSaid, numberOf, valuesOf}
+use Rattle.reader.specs.Said.{askedSaid, numberOf, valuesOf}
 use borrow.Author.Needs.{needs}
 use Rattle.reader.proofs.request.end_at.Statement.{statement}
 use Rattle.reader.proofs.request.end_at.Tie as tie

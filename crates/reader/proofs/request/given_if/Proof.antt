@@ -1,5 +1,5 @@
 -- `given_if`: given without bytes, or 17.
-use Rattle.layout.specs.Said.{askedSaid, numberOf, valuesOf}
+use Rattle.reader.specs.Said.{askedSaid, numberOf, valuesOf}
 use Rattle.reader.proofs.request.given_if.Statement.{statement}
 use Rattle.reader.proofs.request.given_if.Tie as tie
 

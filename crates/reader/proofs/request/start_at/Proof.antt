@@ -1,7 +1,7 @@
 -- `start_at` takes a container of the same kind and length alone.
 use mathlib.Core.Path.{sym, ap, _∙_}
 use Rattle.layout.specs.Bytes.{givenIf, startAsked}
-use Rattle.layout.specs.Said.{askedSaid, numberOf, valuesOf}
+use Rattle.reader.specs.Said.{askedSaid, numberOf, valuesOf}
 use borrow.Author.Needs.{needs}
 use Rattle.reader.proofs.request.start_at.Statement.{statement}
 use Rattle.reader.proofs.request.start_at.Tie as tie

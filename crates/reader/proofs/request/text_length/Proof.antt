@@ -2,9 +2,8 @@
 use mathlib.Core.Path.{sym, ap, _∙_}
 use native.Mathlib.Omega.{arith}
 use lib.ListN.{length}
-use Rattle.layout.specs.Said.{askedSaid, numberOf, valuesOf}
 use Rattle.reader.specs.Request.{lengthSaid, scratchAfter}
-use Rattle.reader.specs.Said.{textSaid}
+use Rattle.reader.specs.Said.{numberOf, valuesOf, textSaid, askedSaid}
 use Rattle.reader.proofs.Inside.{asked-in}
 use Rattle.reader.proofs.Utf16.{is-written, no-room, is-text, filled}
 use borrow.Author.Needs.{needs}

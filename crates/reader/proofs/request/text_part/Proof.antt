@@ -4,8 +4,8 @@ use mathlib.Core.Path.{_≡_, sym, ap, _∙_}
 use native.Mathlib.Omega.{arith}
 use lib.ListN.{length}
 use lib.Seq.{length-take-le}
-use Rattle.layout.specs.Said.{askedSaid}
 use Rattle.reader.specs.Request.{partSaid}
+use Rattle.reader.specs.Said.{askedSaid}
 use Rattle.reader.proofs.Inside.{asked-in}
 use Rattle.reader.proofs.Utf16.{is-measured, part-none, part-some}
 use borrow.Author.Needs.{needs}

@@ -6,11 +6,12 @@ use Rattle.layout.specs.Layout.{lookOf}
 use Rattle.layout.specs.LookLaws.{look-right, placed-scalar, placed-container}
 use Rattle.layout.specs.Looked.{container}
 use Rattle.layout.specs.Said.{lookSaid, shapeSaid}
+use Rattle.layout.specs.SaidLaws.{number-listed}
 use Rattle.layout.proofs.Counts.{numbered, measured}
 use Rattle.reader.specs.Machine.{enter, arrive}
 use Rattle.reader.specs.Next.{laidOut}
-use Rattle.reader.specs.NextLaws.{arrive-refused}
-use Rattle.reader.specs.Said.{stepSaid}
+use Rattle.reader.specs.NextLaws.{arrive-refused, arrive-missing}
+use Rattle.reader.specs.Said.{numberOf, valuesOf, stepSaid}
 use Rattle.reader.specs.State.{openOf, memberOf, advanced, passed, entered}
 use Rattle.reader.proofs.step.at_root.Statement.{statement}
 use Rattle.reader.proofs.step.at_root.Tie as tie
@@ -26,14 +27,20 @@ cast-look-up c = search needs
 look-up-requires : tie.Need-look-up-requires
 look-up-requires c κs = search needs
 
-enum-known-refusal : tie.Need-enum-known-refusal
-enum-known-refusal c = search needs
+enum-told : tie.Need-enum-told
+enum-told c = search needs
 
 laid-out-requires : tie.Need-laid-out-requires
 laid-out-requires c κs = search needs
 
-refused-requires : tie.Need-refused-requires
-refused-requires c κs = search needs
+kept-requires : tie.Need-kept-requires
+kept-requires c κs = search needs
+
+enum-known-refusal : tie.Need-enum-known-refusal
+enum-known-refusal c = search needs
+
+ended-requires : tie.Need-ended-requires
+ended-requires c κs = search needs
 
 enum-known-event : tie.Need-enum-known-event
 enum-known-event c = search needs
@@ -47,13 +54,13 @@ enum-known-shape c = search needs
 laid-out-requires-2 : tie.Need-laid-out-requires-2
 laid-out-requires-2 c κs = search needs
 
-cast-t21 : tie.Need-cast-t21
-cast-t21 c =
+cast-t23 : tie.Need-cast-t23
+cast-t23 c =
     let a = c .before .before .before .before .before .before .before .args in
     omega (arith, numbered (a .file .now) (a .layout) (a .root) _ _ _ (found-container (c .before .before)))
 
-cast-t22 : tie.Need-cast-t22
-cast-t22 c =
+cast-t24 : tie.Need-cast-t24
+cast-t24 c =
     let a = c .before .before .before .before .before .before .before .args in
     omega (arith, measured (a .file .now) (a .layout) (a .root) _ _ _ (found-container (c .before .before)))
 
@@ -67,19 +74,27 @@ handed-requires-2 : tie.Need-handed-requires-2
 handed-requires-2 c κs = search needs
 
 returns : tie.Need-returns
-unfolding lookSaid laidOut
+unfolding lookSaid laidOut numberOf valuesOf
 returns c =
-    let a = c .before .before .before .before .before .before .before .before .args in
-    rw (c .before .laid-out .ensures) at (c .refused .ensures) ∙
-    sym (arrive-refused (a .file .now) (a .layout) (laidOut (a .file .now) (a .layout)) (a .root) _ _ _ _ (look-right (a .file .now) (a .layout) (a .root)) (sym (c .before .before .before .before .before .look-up .ensures .0) ∙ ap lookSaid (c .before .before .before .refusal .given .1)))
+    let a = c .before .before .before .before .before .before .before .args in
+    rw (c .before .laid-out .ensures) at (c .kept .ensures) ∙
+    sym (arrive-missing (a .file .now) (a .layout) (laidOut (a .file .now) (a .layout)) (a .root) _ (look-right (a .file .now) (a .layout) (a .root)) (sym (c .before .before .before .before .look-up .ensures .0) ∙ ap lookSaid (c .before .before .enum-told .given .1)))
 
 returns-2 : tie.Need-returns-2
-unfolding arrive lookSaid stepSaid laidOut passed
-returns-2 c = rw (placed-scalar _ _ _ _ (sym (c .before .before .before .before .look-up .ensures .0) ∙ ap lookSaid (c .before .before .event .given .1)), c .handed .ensures)
+unfolding lookSaid laidOut numberOf valuesOf
+returns-2 c =
+    let a = c .before .before .before .before .before .before .before .args in
+    let r = c .before .before .refusal .given in
+    c .ended .ensures ∙
+    sym (arrive-refused (a .file .now) (a .layout) (laidOut (a .file .now) (a .layout)) (a .root) _ _ _ (number-listed (r .0 .0)) _ (sym (c .before .before .before .before .look-up .ensures .0) ∙ ap lookSaid (r .1)))
 
 returns-3 : tie.Need-returns-3
+unfolding arrive lookSaid stepSaid laidOut passed
+returns-3 c = rw (placed-scalar _ _ _ _ (sym (c .before .before .before .before .look-up .ensures .0) ∙ ap lookSaid (c .before .before .event .given .1)), c .handed .ensures)
+
+returns-4 : tie.Need-returns-4
 unfolding arrive stepSaid laidOut enter openOf memberOf advanced entered
-returns-3 c = rw (found-container (c .before .before .before .before), c .before .before .laid-out2 .ensures, c .handed2 .ensures, c .before .start-of .ensures)
+returns-4 c = rw (found-container (c .before .before .before .before), c .before .before .laid-out2 .ensures, c .handed2 .ensures, c .before .start-of .ensures)
 
 pub at-root-spec : {M : Type 1} → statement M
 at-root-spec =
@@ -87,18 +102,21 @@ at-root-spec =
     (tie.spec
     cast-look-up
     look-up-requires
-    enum-known-refusal
+    enum-told
     laid-out-requires
-    refused-requires
+    kept-requires
+    enum-known-refusal
+    ended-requires
     enum-known-event
     handed-requires
     enum-known-shape
     laid-out-requires-2
-    cast-t21
-    cast-t22
+    cast-t23
+    cast-t24
     element-set-from-reader
     start-of-requires
     handed-requires-2
     returns
     returns-2
-    returns-3)
+    returns-3
+    returns-4)

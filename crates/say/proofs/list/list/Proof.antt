@@ -47,8 +47,11 @@ same-length-4 c = search needs
 returns-2 : tie.Need-returns-2 Inv-loop μ-loop
 returns-2 c = search needs
 
-say-filled-requires : tie.Need-say-filled-requires Inv-loop μ-loop
-say-filled-requires c κs = search needs
+put-filled-requires : tie.Need-put-filled-requires Inv-loop μ-loop
+put-filled-requires c κs = search needs
+
+say-put-requires : tie.Need-say-put-requires Inv-loop μ-loop
+say-put-requires c κs = search needs
 
 sub-left : tie.Need-sub-left Inv-loop μ-loop
 sub-left c = search needs
@@ -89,7 +92,8 @@ list-spec =
     same-length-3
     same-length-4
     returns-2
-    say-filled-requires
+    put-filled-requires
+    say-put-requires
     sub-left
     loop-less
     loop-again

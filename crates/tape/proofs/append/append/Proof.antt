@@ -25,8 +25,8 @@ returns c =
     let u = not-true _ (sym (c .before .is-bad .ensures) ∙ c .if1 .taken) in
     put-reads _ _ _ (range (c .before .before)) (put-bad _ _ _ u)
 
-append-unchecked-requires : tie.Need-append-unchecked-requires
-append-unchecked-requires c κs = search needs
+append-requires : tie.Need-append-requires
+append-requires c κs = search needs
 
 same-length : tie.Need-same-length
 same-length c = search needs
@@ -34,7 +34,7 @@ same-length c = search needs
 returns-2 : tie.Need-returns-2
 returns-2 c =
     let u = not-false _ (sym (c .before .before .before .before .before .is-bad .ensures) ∙ c .before .before .before .before .if1 .left) in
-    put-reads _ _ _ (range (c .before .before .before .before .before .before)) (put-event _ _ _ u (c .before .before .append-unchecked .ensures))
+    put-reads _ _ _ (range (c .before .before .before .before .before .before)) (put-event _ _ _ u (c .before .before .append .ensures))
 
 pub append-spec : {M : Type 1} → statement M
-append-spec = tie.close (tie.spec is-bad-requires returns append-unchecked-requires same-length returns-2)
+append-spec = tie.close (tie.spec is-bad-requires returns append-requires same-length returns-2)

@@ -4,11 +4,12 @@ use borrow.Author.Needs.{needs}
 use Rattle.tape.specs.Item.{numbered, textIn, ofKind}
 use Rattle.tape.specs.Kinds.{eventOf}
 use Rattle.tape.specs.KindsLaws.{item-of, item-past}
+use Rattle.tape.specs.SaidLaws.{item-said}
 use Rattle.tape.proofs.step.quick_step.Statement.{statement}
 use Rattle.tape.proofs.step.quick_step.Tie as tie
 
 returns : tie.Need-returns
-returns c = sym (item-past _ _ (c .if1 .taken))
+returns c = item-said _ _ (sym (item-past _ _ (c .if1 .taken)))
 
 add-next : tie.Need-add-next
 add-next c = search needs
@@ -50,27 +51,27 @@ returns-2 : tie.Need-returns-2
 unfolding ofKind
 returns-2 c =
     let a = c .before .before .before .before .before .before .args in
-    c .text-at .ensures ∙ ap (textIn (a .tape .now)) (c .before .length-at .ensures) ∙ sym (item-of _ _ _ (c .before .before .before .before .if1 .left) (c .before .before .match .keys1))
+    item-said _ _ (c .text-at .ensures ∙ ap (textIn (a .tape .now)) (c .before .length-at .ensures) ∙ sym (item-of _ _ _ (c .before .before .before .before .if1 .left) (c .before .before .match .keys1)))
 
 returns-3 : tie.Need-returns-3
 unfolding ofKind
-returns-3 c = c .no-bytes .ensures ∙ sym (item-of _ _ _ (c .before .before .before .if1 .left) (c .before .match .keys2))
+returns-3 c = item-said _ _ (c .no-bytes .ensures ∙ sym (item-of _ _ _ (c .before .before .before .if1 .left) (c .before .match .keys2)))
 
 returns-4 : tie.Need-returns-4
 unfolding ofKind eventOf
-returns-4 c = c .numbered .ensures ∙ ap (numbered (eventOf 0x0B)) (c .before .number-at .ensures) ∙ sym (item-of _ _ _ (c .before .before .before .before .if1 .left) (c .before .before .match .keys3))
+returns-4 c = item-said _ _ (c .numbered .ensures ∙ ap (numbered (eventOf 0x0B)) (c .before .number-at .ensures) ∙ sym (item-of _ _ _ (c .before .before .before .before .if1 .left) (c .before .before .match .keys3)))
 
 returns-5 : tie.Need-returns-5
 unfolding ofKind
-returns-5 c = c .no-bytes2 .ensures ∙ sym (item-of _ _ _ (c .before .before .before .if1 .left) (c .before .match .keys4))
+returns-5 c = item-said _ _ (c .no-bytes2 .ensures ∙ sym (item-of _ _ _ (c .before .before .before .if1 .left) (c .before .match .keys4)))
 
 returns-6 : tie.Need-returns-6
 unfolding ofKind eventOf
-returns-6 c = c .numbered2 .ensures ∙ ap (numbered (eventOf 0x0D)) (c .before .number-at2 .ensures) ∙ sym (item-of _ _ _ (c .before .before .before .before .if1 .left) (c .before .before .match .keys5))
+returns-6 c = item-said _ _ (c .numbered2 .ensures ∙ ap (numbered (eventOf 0x0D)) (c .before .number-at2 .ensures) ∙ sym (item-of _ _ _ (c .before .before .before .before .if1 .left) (c .before .before .match .keys5)))
 
 returns-7 : tie.Need-returns-7
 unfolding ofKind
-returns-7 c = c .no-bytes3 .ensures ∙ sym (item-of _ _ _ (c .before .before .before .if1 .left) (c .before .match .keys6))
+returns-7 c = item-said _ _ (c .no-bytes3 .ensures ∙ sym (item-of _ _ _ (c .before .before .before .if1 .left) (c .before .match .keys6)))
 
 returns-8 : tie.Need-returns-8
 returns-8 c = search needs

@@ -3,10 +3,10 @@ use mathlib.Core.Path.{sym, ap, _∙_}
 use native.Mathlib.Omega.{arith}
 use lib.Seq.{length-take-le}
 use Rattle.number.specs.BeLaws.{bytes-of}
-use Rattle.layout.specs.Said.{numberOf, valuesOf}
+use Rattle.reader.specs.Said.{numberOf, valuesOf}
 use Rattle.transcribe.specs.Note.{fromTape}
 use Rattle.transcribe.specs.Said.{noteSaid, failSaid}
-use Rattle.transcribe.proofs.Noting.{never-denied, is-bare, plain-noted, file-end, file-has, file-noted, utf16-end, utf16-has, never-bad, long-noted, text-fits, utf16-noted}
+use Rattle.transcribe.proofs.Noting.{put-unchecked, is-bare, plain-noted, file-end, file-has, file-noted, utf16-end, utf16-has, never-bad, long-noted, text-fits, utf16-noted}
 use borrow.Author.Needs.{needs}
 use Rattle.transcribe.proofs.note.note.Statement.{statement}
 use Rattle.transcribe.proofs.note.note.Tie as tie
@@ -17,35 +17,35 @@ enum-told c = search needs
 note-plain-requires : tie.Need-note-plain-requires
 note-plain-requires c κs = is-bare (c .before .before .before .before .before .before .pre) (c .before .enum-told .given .1)
 
-enum-known-bytes : tie.Need-enum-known-bytes
-enum-known-bytes c = search needs
+enum-known-span : tie.Need-enum-known-span
+enum-known-span c = search needs
 
 add-end : tie.Need-add-end
-add-end c = omega (arith, file-end (c .before .before .before .before .before .before .before .pre) (c .before .before .bytes .given .1))
+add-end c = omega (arith, file-end (c .before .before .before .before .before .before .before .pre) (c .before .before .span .given .1))
 
 bytes-kind-requires : tie.Need-bytes-kind-requires
-bytes-kind-requires c κs = file-has (c .before .before .before .before .before .before .before .pre) (c .before .before .bytes .given .1)
+bytes-kind-requires c κs = file-has (c .before .before .before .before .before .before .before .pre) (c .before .before .span .given .1)
 
-sub-put-bytes-unchecked : tie.Need-sub-put-bytes-unchecked
-sub-put-bytes-unchecked c = search needs
+sub-put-bytes : tie.Need-sub-put-bytes
+sub-put-bytes c = search needs
 
-part-put-bytes-unchecked-start : tie.Need-part-put-bytes-unchecked-start
-part-put-bytes-unchecked-start c = search needs
+part-put-bytes-start : tie.Need-part-put-bytes-start
+part-put-bytes-start c = search needs
 
-part-put-bytes-unchecked-end : tie.Need-part-put-bytes-unchecked-end
-part-put-bytes-unchecked-end c = file-end (c .before .before .before .before .before .before .before .before .before .pre) (c .before .before .before .before .bytes .given .1)
+part-put-bytes-end : tie.Need-part-put-bytes-end
+part-put-bytes-end c = file-end (c .before .before .before .before .before .before .before .before .before .pre) (c .before .before .before .before .span .given .1)
 
-put-bytes-unchecked-requires : tie.Need-put-bytes-unchecked-requires
-put-bytes-unchecked-requires c κs = search needs
+put-bytes-requires : tie.Need-put-bytes-requires
+put-bytes-requires c κs = search needs
 
 noted-requires : tie.Need-noted-requires
-noted-requires c κs = search needs
+noted-requires c κs = rw (c .before .before .put-bytes .ensures .0) (put-unchecked _ _ _)
 
-enum-known-bytes-2 : tie.Need-enum-known-bytes-2
-enum-known-bytes-2 c = search needs
+enum-known-span-2 : tie.Need-enum-known-span-2
+enum-known-span-2 c = search needs
 
 add-end-2 : tie.Need-add-end-2
-add-end-2 c = omega (arith, utf16-end (c .before .before .before .before .before .before .before .pre) (c .before .before .bytes2 .given .1))
+add-end-2 c = omega (arith, utf16-end (c .before .before .before .before .before .before .before .pre) (c .before .before .span2 .given .1))
 
 sub-utf16-to-utf8 : tie.Need-sub-utf16-to-utf8
 sub-utf16-to-utf8 c = search needs
@@ -54,7 +54,7 @@ part-utf16-to-utf8-start : tie.Need-part-utf16-to-utf8-start
 part-utf16-to-utf8-start c = search needs
 
 part-utf16-to-utf8-end : tie.Need-part-utf16-to-utf8-end
-part-utf16-to-utf8-end c = utf16-end (c .before .before .before .before .before .before .before .pre) (c .before .before .bytes2 .given .1)
+part-utf16-to-utf8-end c = utf16-end (c .before .before .before .before .before .before .before .pre) (c .before .before .span2 .given .1)
 
 utf16-to-utf8-requires : tie.Need-utf16-to-utf8-requires
 utf16-to-utf8-requires c κs = search needs
@@ -65,34 +65,31 @@ enum-known-n c = search needs
 bytes-kind-requires-2 : tie.Need-bytes-kind-requires-2
 bytes-kind-requires-2 c κs =
     let b = c .before .before .before .before .before .before .before .before .before .before in
-    utf16-has (b .before .before .before .before .before .pre) (b .bytes2 .given .1)
+    utf16-has (b .before .before .before .before .before .pre) (b .span2 .given .1)
 
-slice-reshare-prefix-put-bytes-unchecked : tie.Need-slice-reshare-prefix-put-bytes-unchecked
-slice-reshare-prefix-put-bytes-unchecked c =
+slice-reshare-prefix-put-bytes : tie.Need-slice-reshare-prefix-put-bytes
+slice-reshare-prefix-put-bytes c =
     let u = c .before .before .before .before .before .before .before .utf16-to-utf8 in
     let b = c .before .before .before .before .before .before .before .before .before .before .before .before in
-    text-fits (b .before .before .before .before .before .pre) (b .bytes2 .given .1) (b .before .before .before .before .before .args .scratch .now) (u .result) (u .ensures .0) _ (u .ensures .1) (c .before .before .before .n .given .1)
+    text-fits (b .before .before .before .before .before .pre) (b .span2 .given .1) (b .before .before .before .before .before .args .scratch .now) (u .result) (u .ensures .0) _ (u .ensures .1) (c .before .before .before .n .given .1)
 
-slice-aggregate-put-bytes-unchecked : tie.Need-slice-aggregate-put-bytes-unchecked
-slice-aggregate-put-bytes-unchecked c =
+slice-aggregate-put-bytes : tie.Need-slice-aggregate-put-bytes
+slice-aggregate-put-bytes c =
     let u = c .before .before .before .before .before .before .before .before .utf16-to-utf8 in
     let b = c .before .before .before .before .before .before .before .before .before .before .before .before .before in
-    sym (length-take-le _ _ (text-fits (b .before .before .before .before .before .pre) (b .bytes2 .given .1) (b .before .before .before .before .before .args .scratch .now) (u .result) (u .ensures .0) _ (u .ensures .1) (c .before .before .before .before .n .given .1)))
+    sym (length-take-le _ _ (text-fits (b .before .before .before .before .before .pre) (b .span2 .given .1) (b .before .before .before .before .before .args .scratch .now) (u .result) (u .ensures .0) _ (u .ensures .1) (c .before .before .before .before .n .given .1)))
 
-put-bytes-unchecked-requires-2 : tie.Need-put-bytes-unchecked-requires-2
-put-bytes-unchecked-requires-2 c κs = search needs
+put-bytes-requires-2 : tie.Need-put-bytes-requires-2
+put-bytes-requires-2 c κs = search needs
 
 noted-requires-2 : tie.Need-noted-requires-2
-noted-requires-2 c κs = search needs
+noted-requires-2 c κs = rw (c .before .before .put-bytes2 .ensures .0) (put-unchecked _ _ _)
 
 enum-told-2 : tie.Need-enum-told-2
 enum-told-2 c = search needs
 
 enum-told-3 : tie.Need-enum-told-3
 enum-told-3 c = search needs
-
-enum-known-bytes-3 : tie.Need-enum-known-bytes-3
-enum-known-bytes-3 c = search needs
 
 same-length : tie.Need-same-length
 same-length c = search needs
@@ -108,10 +105,10 @@ same-length-2 c = search needs
 
 returns-2 : tie.Need-returns-2
 returns-2 c =
-    let p = c .before .before .before .put-bytes-unchecked in
+    let p = c .before .before .before .put-bytes in
     let b = c .before .before .before .before .before .before .before .before .before in
     let a = b .before .before .before .before .before .args in
-    file-noted (b .before .before .before .before .before .pre) (b .bytes .given .1) (a .scratch .now) (a .tape .now) (a .held) _ _ (c .before .before .before .before .before .before .bytes-kind .ensures) (c .noted .ensures ∙ ap fromTape (p .ensures .0)) (p .ensures .1)
+    file-noted (b .before .before .before .before .before .pre) (b .span .given .1) (a .scratch .now) (a .tape .now) (a .held) _ _ (c .before .before .before .before .before .before .bytes-kind .ensures) (c .noted .ensures ∙ ap fromTape (p .ensures .0)) (p .ensures .1)
 
 same-length-3 : tie.Need-same-length-3
 same-length-3 c = search needs
@@ -121,11 +118,11 @@ same-length-4 c = search needs
 
 returns-3 : tie.Need-returns-3
 returns-3 c =
-    let p = c .before .before .before .put-bytes-unchecked2 in
+    let p = c .before .before .before .put-bytes2 in
     let u = c .before .before .before .before .before .before .before .before .before .before .before .before .utf16-to-utf8 in
     let b = c .before .before .before .before .before .before .before .before .before .before .before .before .before .before .before .before .before in
     let a = b .before .before .before .before .before .args in
-    utf16-noted (b .before .before .before .before .before .pre) (b .bytes2 .given .1) (a .scratch .now) (u .result) (u .ensures .0) _ (u .ensures .1) (c .before .before .before .before .before .before .before .before .n .given .1)
+    utf16-noted (b .before .before .before .before .before .pre) (b .span2 .given .1) (a .scratch .now) (u .result) (u .ensures .0) _ (u .ensures .1) (c .before .before .before .before .before .before .before .before .n .given .1)
     (bytes-of (a .file .now) (λ i. omega (arith, b .before .before .before .before .shared-slice-known .given i)))
     (a .tape .now) (a .held) _ _ (c .before .before .before .before .before .before .bytes-kind2 .ensures) (c .noted2 .ensures ∙ ap fromTape (p .ensures .0)) (p .ensures .1)
 
@@ -138,7 +135,7 @@ returns-4 c =
     let u = c .before .before .before .before .utf16-to-utf8 in
     let b = c .before .before .before .before .before .before .before .before .before in
     let a = b .before .before .before .before .before .args in
-    long-noted (b .before .before .before .before .before .pre) (b .bytes2 .given .1) (a .scratch .now) (u .result) (u .ensures .0) _ (u .ensures .1) (c .enum-told2 .given .1) (a .tape .now) (a .held)
+    long-noted (b .before .before .before .before .before .pre) (b .span2 .given .1) (a .scratch .now) (u .result) (u .ensures .0) _ (u .ensures .1) (c .enum-told2 .given .1) (a .tape .now) (a .held)
 
 same-length-6 : tie.Need-same-length-6
 same-length-6 c = search needs
@@ -147,10 +144,7 @@ returns-5 : tie.Need-returns-5
 returns-5 c =
     let u = c .before .before .before .before .utf16-to-utf8 in
     let b = c .before .before .before .before .before .before .before .before .before in
-    absurd (never-bad (b .before .before .before .before .before .pre) (b .bytes2 .given .1) (b .before .before .before .before .before .args .scratch .now) (u .result) (u .ensures .0) (c .enum-told3 .given .1))
-
-returns-6 : tie.Need-returns-6
-returns-6 c = absurd (never-denied (c .before .before .before .before .before .before .pre) (c .before .bytes3 .given .1))
+    absurd (never-bad (b .before .before .before .before .before .pre) (b .span2 .given .1) (b .before .before .before .before .before .args .scratch .now) (u .result) (u .ensures .0) (c .enum-told3 .given .1))
 
 pub note-spec : {M : Type 1} → statement M
 note-spec =
@@ -158,15 +152,15 @@ note-spec =
     (tie.spec
     enum-told
     note-plain-requires
-    enum-known-bytes
+    enum-known-span
     add-end
     bytes-kind-requires
-    sub-put-bytes-unchecked
-    part-put-bytes-unchecked-start
-    part-put-bytes-unchecked-end
-    put-bytes-unchecked-requires
+    sub-put-bytes
+    part-put-bytes-start
+    part-put-bytes-end
+    put-bytes-requires
     noted-requires
-    enum-known-bytes-2
+    enum-known-span-2
     add-end-2
     sub-utf16-to-utf8
     part-utf16-to-utf8-start
@@ -174,13 +168,12 @@ note-spec =
     utf16-to-utf8-requires
     enum-known-n
     bytes-kind-requires-2
-    slice-reshare-prefix-put-bytes-unchecked
-    slice-aggregate-put-bytes-unchecked
-    put-bytes-unchecked-requires-2
+    slice-reshare-prefix-put-bytes
+    slice-aggregate-put-bytes
+    put-bytes-requires-2
     noted-requires-2
     enum-told-2
     enum-told-3
-    enum-known-bytes-3
     same-length
     returns
     same-length-2
@@ -191,5 +184,4 @@ note-spec =
     same-length-5
     returns-4
     same-length-6
-    returns-5
-    returns-6)
+    returns-5)

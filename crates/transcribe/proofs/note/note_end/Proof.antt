@@ -1,7 +1,7 @@
 -- `note_end` puts a container's end, which is its kind alone.
 use mathlib.Core.Path.{ap, _∙_}
 use borrow.Author.Needs.{needs}
-use Rattle.transcribe.proofs.Noting.{end-put}
+use Rattle.transcribe.proofs.Noting.{put-unchecked, end-put}
 use Rattle.transcribe.specs.Note.{fromTape}
 use Rattle.transcribe.proofs.note.note_end.Statement.{statement}
 use Rattle.transcribe.proofs.note.note_end.Tie as tie
@@ -10,7 +10,7 @@ put-kind-requires : tie.Need-put-kind-requires
 put-kind-requires c κs = search needs
 
 noted-requires : tie.Need-noted-requires
-noted-requires c κs = search needs
+noted-requires c κs = rw (c .before .before .put-kind .ensures .0) (put-unchecked _ _ _)
 
 same-length : tie.Need-same-length
 same-length c = search needs

@@ -6,6 +6,7 @@ use Rattle.transcribe.specs.HandedLaws.{bare-allowed}
 use Rattle.transcribe.specs.Note.{fromTape}
 use borrow.Author.Needs.{needs}
 use Rattle.tape.specs.AppendLaws.{put-event}
+use Rattle.transcribe.proofs.Noting.{put-unchecked}
 use Rattle.transcribe.proofs.note.note_plain.Statement.{statement}
 use Rattle.transcribe.proofs.note.note_plain.Tie as tie
 
@@ -13,7 +14,7 @@ put-plain-requires : tie.Need-put-plain-requires
 put-plain-requires c κs = search needs
 
 noted-requires : tie.Need-noted-requires
-noted-requires c κs = search needs
+noted-requires c κs = rw (c .before .before .put-plain .ensures .0) (put-unchecked _ _ _)
 
 same-length : tie.Need-same-length
 same-length c = search needs

@@ -3,7 +3,7 @@ use mathlib.Core.Path.{ap, _∙_}
 use borrow.Author.Needs.{needs}
 use Rattle.layout.specs.Said.{shapeSaid}
 use Rattle.layout.specs.Looked.{array, dictionary}
-use Rattle.transcribe.proofs.Noting.{start-put}
+use Rattle.transcribe.proofs.Noting.{put-unchecked, start-put}
 use Rattle.transcribe.specs.Note.{fromTape}
 use Rattle.transcribe.proofs.note.note_start.Statement.{statement}
 use Rattle.transcribe.proofs.note.note_start.Tie as tie
@@ -15,7 +15,7 @@ put-number-requires : tie.Need-put-number-requires
 put-number-requires c κs = search needs
 
 noted-requires : tie.Need-noted-requires
-noted-requires c κs = search needs
+noted-requires c κs = rw (c .before .before .put-number .ensures .0) (put-unchecked _ _ _)
 
 enum-told-2 : tie.Need-enum-told-2
 enum-told-2 c = search needs
@@ -24,7 +24,7 @@ put-number-requires-2 : tie.Need-put-number-requires-2
 put-number-requires-2 c κs = search needs
 
 noted-requires-2 : tie.Need-noted-requires-2
-noted-requires-2 c κs = search needs
+noted-requires-2 c κs = rw (c .before .before .put-number2 .ensures .0) (put-unchecked _ _ _)
 
 same-length : tie.Need-same-length
 same-length c = search needs

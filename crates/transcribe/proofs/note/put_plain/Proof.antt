@@ -44,11 +44,11 @@ enum-known-event-6 c = search needs
 put-number-requires : tie.Need-put-number-requires
 put-number-requires c κs = search needs
 
-slice-aggregate-append-unchecked : tie.Need-slice-aggregate-append-unchecked
-slice-aggregate-append-unchecked c = search needs
+slice-aggregate-append : tie.Need-slice-aggregate-append
+slice-aggregate-append c = search needs
 
-append-unchecked-requires : tie.Need-append-unchecked-requires
-append-unchecked-requires c κs = search needs
+append-requires : tie.Need-append-requires
+append-requires c κs = search needs
 
 same-length : tie.Need-same-length
 same-length c = search needs
@@ -115,8 +115,8 @@ put-plain-spec =
     put-eight-requires-3
     enum-known-event-6
     put-number-requires
-    slice-aggregate-append-unchecked
-    append-unchecked-requires
+    slice-aggregate-append
+    append-requires
     same-length
     returns
     same-length-2

@@ -15,9 +15,6 @@ refused-requires c κs = search needs
 enum-known-failure-2 : tie.Need-enum-known-failure-2
 enum-known-failure-2 c = search needs
 
-enum-known-failure-3 : tie.Need-enum-known-failure-3
-enum-known-failure-3 c = search needs
-
 returns : tie.Need-returns
 unfolding failSaid endOf
 returns c = (c .refused .ensures .0 ∙ rw (c .before .before .failure .given .1), c .refused .ensures .1)
@@ -26,10 +23,6 @@ returns-2 : tie.Need-returns-2
 unfolding endSaid failSaid endOf
 returns-2 c = (rw (c .before .failure2 .given .1), refl)
 
-returns-3 : tie.Need-returns-3
-unfolding endSaid failSaid endOf
-returns-3 c = (rw (c .before .failure3 .given .1), refl)
-
 pub failed-spec : {M : Type 1} → statement M
 failed-spec =
     tie.close
@@ -37,7 +30,5 @@ failed-spec =
     enum-known-failure
     refused-requires
     enum-known-failure-2
-    enum-known-failure-3
     returns
-    returns-2
-    returns-3)
+    returns-2)

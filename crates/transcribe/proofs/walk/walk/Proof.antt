@@ -10,18 +10,20 @@ use lib.Dec.{lit≤}
 use Rattle.number.specs.Among.{among}
 use Rattle.layout.specs.LookLaws.{placed-scalar, placed-container}
 use Rattle.layout.specs.Looked.{scalar, container}
-use Rattle.layout.specs.Said.{shapeSaid, numberOf, valuesOf, lookSaid, lookBytes}
+use Rattle.layout.specs.Said.{shapeSaid, lookSaid, lookBytes}
+use Rattle.layout.specs.SaidLaws.{number-listed}
 use Rattle.layout.specs.Frame.{nextIn, noFrame}
 use Rattle.layout.specs.declared.layout.Due.the-variants.{Close, Member}
 use Rattle.layout.specs.Layout.{lookOf}
 use Rattle.reader.specs.Machine.{arrive}
 use Rattle.reader.specs.State.{maxOpen, memberOf}
 use Rattle.reader.specs.Next.{laidOut}
+use Rattle.reader.specs.Said.{numberOf, valuesOf}
 use Rattle.transcribe.specs.Said.{noteSaid, endSaid}
 use Rattle.transcribe.specs.Run.{onward}
 use Rattle.transcribe.specs.Walk.{Below}
 use Rattle.transcribe.proofs.Listed.{Listed, close-below, enter-below}
-use Rattle.transcribe.proofs.Walking.{Stands, leftOf, due, looked, short-number, short-length, Turn, call-root, is-wrong, close-fails, close-finishes, close-goes, is-refused, notable, counts, scalar-fails, scalar-finishes, scalar-goes, scalar-stands, is-open-now, is-deep, enter-fails, enter-goes, enter-stands, still-long, sought, close-lists, scalar-lists, enter-lists}
+use Rattle.transcribe.proofs.Walking.{Stands, leftOf, due, looked, short-number, short-length, Turn, call-root, is-wrong, close-fails, close-finishes, close-goes, is-missing, is-refused, notable, counts, scalar-fails, scalar-finishes, scalar-goes, scalar-stands, is-open-now, is-deep, enter-fails, enter-goes, enter-stands, still-long, sought, close-lists, scalar-lists, enter-lists}
 use Rattle.transcribe.proofs.walk.walk.Statement.{statement}
 use Rattle.transcribe.proofs.walk.walk.Tie as tie
 
@@ -267,23 +269,42 @@ enum-known-object c = search needs
 look-up-requires : tie.Need-look-up-requires Inv-loop μ-loop
 look-up-requires c κs = search needs
 
-enum-known-refusal : tie.Need-enum-known-refusal Inv-loop μ-loop
-enum-known-refusal c = search needs
+enum-told-3 : tie.Need-enum-told-3 Inv-loop μ-loop
+enum-told-3 c = search needs
 
 refused-requires-2 : tie.Need-refused-requires-2 Inv-loop μ-loop
 refused-requires-2 c κs = search needs
 
 same-length-7 : tie.Need-same-length-7 Inv-loop μ-loop
-same-length-7 c = turn (c .before .before .before .before .before .before .before .before) .same-scratch
+same-length-7 c = turn (c .before .before .before .before .before .before .before) .same-scratch
 
 same-length-8 : tie.Need-same-length-8 Inv-loop μ-loop
-same-length-8 c = turn (c .before .before .before .before .before .before .before .before) .same-tape
+same-length-8 c = turn (c .before .before .before .before .before .before .before) .same-tape
 
 returns-4 : tie.Need-returns-4 Inv-loop μ-loop
-unfolding lookSaid
+unfolding lookSaid numberOf valuesOf
 returns-4 c =
     rw (c .refused2 .ensures .0, c .refused2 .ensures .1)
-    (is-refused (turn (c .before .before .before .before .before .before .before .before)) _ (due-member (c .before .before .before .before .before .before)) _ _ _ (sym (c .before .before .before .before .look-up .ensures .0) ∙ ap lookSaid (c .before .before .refusal .given .1)))
+    (is-missing (turn (c .before .before .before .before .before .before .before)) _ (due-member (c .before .before .before .before .before)) (sym (c .before .before .before .look-up .ensures .0) ∙ ap lookSaid (c .before .enum-told3 .given .1)))
+
+enum-known-refusal : tie.Need-enum-known-refusal Inv-loop μ-loop
+enum-known-refusal c = search needs
+
+refused-requires-3 : tie.Need-refused-requires-3 Inv-loop μ-loop
+refused-requires-3 c κs = search needs
+
+same-length-9 : tie.Need-same-length-9 Inv-loop μ-loop
+same-length-9 c = turn (c .before .before .before .before .before .before .before .before) .same-scratch
+
+same-length-10 : tie.Need-same-length-10 Inv-loop μ-loop
+same-length-10 c = turn (c .before .before .before .before .before .before .before .before) .same-tape
+
+returns-5 : tie.Need-returns-5 Inv-loop μ-loop
+unfolding lookSaid numberOf valuesOf
+returns-5 c =
+    let r = c .before .before .refusal .given in
+    rw (c .refused3 .ensures .0, c .refused3 .ensures .1)
+    (is-refused (turn (c .before .before .before .before .before .before .before .before)) _ (due-member (c .before .before .before .before .before .before)) _ _ _ (number-listed (r .0 .0)) (sym (c .before .before .before .before .look-up .ensures .0) ∙ ap lookSaid (r .1)))
 
 enum-known-event : tie.Need-enum-known-event Inv-loop μ-loop
 enum-known-event c = search needs
@@ -298,19 +319,19 @@ enum-known-failure-2 c = search needs
 failed-requires-2 : tie.Need-failed-requires-2 Inv-loop μ-loop
 failed-requires-2 c κs = search needs
 
-same-length-9 : tie.Need-same-length-9 Inv-loop μ-loop
-same-length-9 c =
+same-length-11 : tie.Need-same-length-11 Inv-loop μ-loop
+same-length-11 c =
     let n = c .before .before .before .before .before .before .before .before in
     n .note .kept .1 .0 ∙ scalar-turn n .same-scratch
 
-same-length-10 : tie.Need-same-length-10 Inv-loop μ-loop
-same-length-10 c =
+same-length-12 : tie.Need-same-length-12 Inv-loop μ-loop
+same-length-12 c =
     let n = c .before .before .before .before .before .before .before .before in
     n .note .kept .1 .1 .0 ∙ scalar-turn n .same-tape
 
-returns-5 : tie.Need-returns-5 Inv-loop μ-loop
+returns-6 : tie.Need-returns-6 Inv-loop μ-loop
 unfolding noteSaid
-returns-5 c =
+returns-6 c =
     let n = c .before .before .before .before .before .before .before .before in
     rw (c .failed2 .ensures .0, c .failed2 .ensures .1)
     (scalar-fails (scalar-turn n) _ (due-member (scalar-object n)) _ _ (found-scalar (scalar-event n)) _ _ _ (n .note .ensures) _ (ap noteSaid (c .before .before .failure2 .given .1)))
@@ -321,19 +342,19 @@ enum-known-n-2 c = search needs
 finished-requires-2 : tie.Need-finished-requires-2 Inv-loop μ-loop
 finished-requires-2 c κs = search needs
 
-same-length-11 : tie.Need-same-length-11 Inv-loop μ-loop
-same-length-11 c =
+same-length-13 : tie.Need-same-length-13 Inv-loop μ-loop
+same-length-13 c =
     let n = c .before .before .before .before .before .before .before .before .before in
     n .note .kept .1 .0 ∙ scalar-turn n .same-scratch
 
-same-length-12 : tie.Need-same-length-12 Inv-loop μ-loop
-same-length-12 c =
+same-length-14 : tie.Need-same-length-14 Inv-loop μ-loop
+same-length-14 c =
     let n = c .before .before .before .before .before .before .before .before .before in
     n .note .kept .1 .1 .0 ∙ scalar-turn n .same-tape
 
-returns-6 : tie.Need-returns-6 Inv-loop μ-loop
+returns-7 : tie.Need-returns-7 Inv-loop μ-loop
 unfolding noteSaid
-returns-6 c =
+returns-7 c =
     let n = c .before .before .before .before .before .before .before .before .before in
     rw (c .finished2 .ensures .0, c .finished2 .ensures .1)
     (scalar-finishes (scalar-turn n) _ (due-member (scalar-object n)) _ _ (found-scalar (scalar-event n)) _ _ _ (n .note .ensures) (c .before .if2 .taken) _ (ap noteSaid (c .before .before .before .n2 .given .1)))
@@ -396,36 +417,36 @@ slice-aggregate-is-known c =
 is-known-requires : tie.Need-is-known-requires Inv-loop μ-loop
 is-known-requires c κs = turn (c .before .before .before .before .before .before .before .before) .below
 
-refused-requires-3 : tie.Need-refused-requires-3 Inv-loop μ-loop
-refused-requires-3 c κs = search needs
-
-same-length-13 : tie.Need-same-length-13 Inv-loop μ-loop
-same-length-13 c = met-turn (c .before .before) .same-scratch
-
-same-length-14 : tie.Need-same-length-14 Inv-loop μ-loop
-same-length-14 c = met-turn (c .before .before) .same-tape
-
-returns-7 : tie.Need-returns-7 Inv-loop μ-loop
-unfolding numberOf valuesOf
-returns-7 c =
-    let k = c .before .before in
-    rw (c .refused3 .ensures .0, c .refused3 .ensures .1)
-    (is-open-now (met-turn k) _ (due-member (met-object k)) _ _ _ (found-container (met-shape k)) (met-sought k _ (c .before .if3 .taken)))
-
 refused-requires-4 : tie.Need-refused-requires-4 Inv-loop μ-loop
 refused-requires-4 c κs = search needs
 
 same-length-15 : tie.Need-same-length-15 Inv-loop μ-loop
-same-length-15 c = met-turn (c .before .before .before) .same-scratch
+same-length-15 c = met-turn (c .before .before) .same-scratch
 
 same-length-16 : tie.Need-same-length-16 Inv-loop μ-loop
-same-length-16 c = met-turn (c .before .before .before) .same-tape
+same-length-16 c = met-turn (c .before .before) .same-tape
 
 returns-8 : tie.Need-returns-8 Inv-loop μ-loop
 unfolding numberOf valuesOf
 returns-8 c =
-    let k = c .before .before .before in
+    let k = c .before .before in
     rw (c .refused4 .ensures .0, c .refused4 .ensures .1)
+    (is-open-now (met-turn k) _ (due-member (met-object k)) _ _ _ (found-container (met-shape k)) (met-sought k _ (c .before .if3 .taken)))
+
+refused-requires-5 : tie.Need-refused-requires-5 Inv-loop μ-loop
+refused-requires-5 c κs = search needs
+
+same-length-17 : tie.Need-same-length-17 Inv-loop μ-loop
+same-length-17 c = met-turn (c .before .before .before) .same-scratch
+
+same-length-18 : tie.Need-same-length-18 Inv-loop μ-loop
+same-length-18 c = met-turn (c .before .before .before) .same-tape
+
+returns-9 : tie.Need-returns-9 Inv-loop μ-loop
+unfolding numberOf valuesOf
+returns-9 c =
+    let k = c .before .before .before in
+    rw (c .refused5 .ensures .0, c .refused5 .ensures .1)
     (is-deep (met-turn k) _ (due-member (met-object k)) _ _ _ (found-container (met-shape k)) (met-sought k _ (c .before .before .if3 .left)) (c .before .if4 .taken))
 
 note-start-requires : tie.Need-note-start-requires Inv-loop μ-loop
@@ -437,17 +458,17 @@ enum-known-failure-3 c = search needs
 failed-requires-3 : tie.Need-failed-requires-3 Inv-loop μ-loop
 failed-requires-3 c κs = search needs
 
-same-length-17 : tie.Need-same-length-17 Inv-loop μ-loop
-same-length-17 c = met-turn (start-met (c .before .before .before .before .before .before)) .same-scratch
+same-length-19 : tie.Need-same-length-19 Inv-loop μ-loop
+same-length-19 c = met-turn (start-met (c .before .before .before .before .before .before)) .same-scratch
 
-same-length-18 : tie.Need-same-length-18 Inv-loop μ-loop
-same-length-18 c =
+same-length-20 : tie.Need-same-length-20 Inv-loop μ-loop
+same-length-20 c =
     let n = c .before .before .before .before .before .before in
     n .note-start .kept .0 ∙ met-turn (start-met n) .same-tape
 
-returns-9 : tie.Need-returns-9 Inv-loop μ-loop
+returns-10 : tie.Need-returns-10 Inv-loop μ-loop
 unfolding noteSaid
-returns-9 c =
+returns-10 c =
     let n = c .before .before .before .before .before .before in
     let k = start-met n in
     rw (c .failed3 .ensures .0, c .failed3 .ensures .1)
@@ -479,8 +500,8 @@ mul-numbers c = search needs
 array-write-numbers : tie.Need-array-write-numbers Inv-loop μ-loop
 array-write-numbers c = search needs
 
-cast-t80 : tie.Need-cast-t80 Inv-loop μ-loop
-cast-t80 c =
+cast-t82 : tie.Need-cast-t82 Inv-loop μ-loop
+cast-t82 c =
     let k = start-met (c .before .before .before .before .before .before) in
     omega (arith, short-length (met-turn k) _ _ _ _ (found-container (met-shape k)))
 
@@ -528,15 +549,15 @@ loop-again-3 c =
       enter-below (x .depth) _ _ _ (x .numbers) (omega (arith, h, x .many)) (c .higher .ensures) (x .below),
     )
 
-same-length-19 : tie.Need-same-length-19 Inv-loop μ-loop
-same-length-19 c = c .before .loop .inv .0
+same-length-21 : tie.Need-same-length-21 Inv-loop μ-loop
+same-length-21 c = c .before .loop .inv .0
 
-same-length-20 : tie.Need-same-length-20 Inv-loop μ-loop
-same-length-20 c = c .before .loop .inv .1
+same-length-22 : tie.Need-same-length-22 Inv-loop μ-loop
+same-length-22 c = c .before .loop .inv .1
 
-returns-10 : tie.Need-returns-10 Inv-loop μ-loop
+returns-11 : tie.Need-returns-11 Inv-loop μ-loop
 unfolding endSaid onward
-returns-10 c =
+returns-11 c =
     let e : c .before .loop .left ≡ 0 = omega arith in
     rw (e, onward) at (c .before .loop .inv .4)
 
@@ -580,23 +601,28 @@ walk-spec =
     loop-again
     enum-known-object
     look-up-requires
-    enum-known-refusal
+    enum-told-3
     refused-requires-2
     same-length-7
     same-length-8
     returns-4
+    enum-known-refusal
+    refused-requires-3
+    same-length-9
+    same-length-10
+    returns-5
     enum-known-event
     note-requires
     enum-known-failure-2
     failed-requires-2
-    same-length-9
-    same-length-10
-    returns-5
-    enum-known-n-2
-    finished-requires-2
     same-length-11
     same-length-12
     returns-6
+    enum-known-n-2
+    finished-requires-2
+    same-length-13
+    same-length-14
+    returns-7
     mul-frames-2
     element-copy-out-frames
     add-frames
@@ -609,20 +635,20 @@ walk-spec =
     array-share-prefix-numbers
     slice-aggregate-is-known
     is-known-requires
-    refused-requires-3
-    same-length-13
-    same-length-14
-    returns-7
     refused-requires-4
     same-length-15
     same-length-16
     returns-8
-    note-start-requires
-    enum-known-failure-3
-    failed-requires-3
+    refused-requires-5
     same-length-17
     same-length-18
     returns-9
+    note-start-requires
+    enum-known-failure-3
+    failed-requires-3
+    same-length-19
+    same-length-20
+    returns-10
     enum-known-n-3
     mul-frames-4
     element-copy-out-frames-2
@@ -631,7 +657,7 @@ walk-spec =
     way-write-given-frames-2
     mul-numbers
     array-write-numbers
-    cast-t80
+    cast-t82
     mul-frames-6
     array-set-from-frames-2
     add-depth
@@ -640,6 +666,6 @@ walk-spec =
     higher-requires
     loop-less-3
     loop-again-3
-    same-length-19
-    same-length-20
-    returns-10)
+    same-length-21
+    same-length-22
+    returns-11)

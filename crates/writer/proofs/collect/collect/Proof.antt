@@ -3,10 +3,10 @@ use mathlib.Core.Path.{_≡_, sym}
 use Prim.Native.Nat.{_-_, _≤_}
 use native.Mathlib.Numerals.{add-one}
 use native.Mathlib.Omega.{arith}
+use Rattle.tape.specs.Events.{startAt}
 use Rattle.writer.specs.Columns.{Collected}
 use Rattle.writer.specs.CollectLaws.{collected-start}
 use Rattle.writer.specs.Index.{Index}
-use Rattle.writer.specs.Ready.{startAt}
 use Rattle.writer.specs.ReadyLaws.{start-zero, ready-small}
 use Rattle.writer.proofs.collect.collect.Statement.{statement}
 use Rattle.writer.proofs.collect.collect.Tie as tie

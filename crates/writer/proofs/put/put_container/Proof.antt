@@ -3,8 +3,9 @@ use mathlib.Core.List.{_∷_}
 use mathlib.Core.Path.{_≡_, _∙_}
 use Prim.Native.Nat.{_≤_, _<_}
 use lib.ListN.{getD, drop}
+use Rattle.tape.specs.Events.{startAt}
 use Rattle.written.specs.Graph.{Kind, arr, dic, start}
-use Rattle.writer.specs.Ready.{piecesIn, startAt}
+use Rattle.writer.specs.Ready.{piecesIn}
 use Rattle.writer.proofs.Container.{box-small, box-start, box-number, box-place, box-off, box-arr, box-dic, array-listed, array-grown, dictionary-paired, dictionary-keys, dictionary-grown}
 use borrow.Author.Needs.{needs}
 use Rattle.writer.proofs.put.put_container.Statement.{statement}

@@ -4,12 +4,15 @@ use Prim.Native.Nat.{_-_}
 use native.Mathlib.Omega.{arith}
 use borrow.Rule.Slice.PartMut.{midOf}
 use lib.ListN.{length}
-use Rattle.encode.specs.Put.{putInto, putLength}
+use Rattle.encode.specs.Put.{putInto, scalarOf}
+use Rattle.encode.specs.PutLaws.{scalar-put}
+use Rattle.encode.specs.SaidLaws.{putSaid-one}
 use Rattle.written.specs.File.{bytesAt}
-use Rattle.written.specs.Graph.{val}
+use Rattle.written.specs.Graph.{Scalar, val}
 use Rattle.writer.specs.Ready.{piecesIn}
-use Rattle.writer.proofs.Lent.{lent}
-use Rattle.writer.proofs.Once.{first-in, first-bytes}
+use Rattle.writer.specs.Speak.{First}
+use Rattle.writer.proofs.Lent.{Lent, put-all, lent}
+use Rattle.writer.proofs.Once.{first-in, first-bytes, first-some}
 use borrow.Author.Needs.{needs}
 use Rattle.writer.proofs.put.put_first.Statement.{statement}
 use Rattle.writer.proofs.put.put_first.Tie as tie
@@ -38,19 +41,30 @@ part-put-scalar-end c = search needs
 put-scalar-requires : tie.Need-put-scalar-requires
 put-scalar-requires c κs = search needs
 
+-- the scalar's bytes are put
+put : (x : tie.After-slice-known2) →
+    let a = x .before .before .before .before .before .before .before .before .before .args in
+    let p = x .before .before .put-scalar in
+    (s : Scalar) → First (a .tape .now) (a .work .now) (a .out .now) (a .n) (a .r) (a .pos) s → Lent (a .out .now) (a .pos) (bytesAt (piecesIn (a .tape .now)) (val s)) (p .result) (p .last .1 .1 .1 .0)
+put x s o =
+    let a = x .before .before .before .before .before .before .before .before .before .args in
+    let p = x .before .before .put-scalar .ensures in
+    let b = first-bytes o (x .before .before .before .before .before .word .ensures .0) (x .before .before .before .before .word2 .ensures .0) in
+    let l = midOf (a .pos) (length (a .out .now) - a .pos) (a .out .now) in
+    record {
+      room = o .room;
+      answer = putSaid-one _ _ _ (p .0) ∙ ap (scalarOf l) b ∙ scalar-put l _ (first-some o);
+      memory = p .1 ∙ ap (putInto l) b;
+    }
+
+behind-requires : tie.Need-behind-requires
+behind-requires c κs = let (s, o) = c .before .before .before .before .before .before .before .before .before .pre in put-all (put c s o) (omega arith)
+
 same-length : tie.Need-same-length
 same-length c = search needs
 
 returns : tie.Need-returns
-returns c s o =
-    let a = c .before .before .before .before .before .before .before .before .before .args in
-    let p = c .before .before .put-scalar .ensures in
-    let b = first-bytes o (c .before .before .before .before .before .word .ensures .0) (c .before .before .before .before .word2 .ensures .0) in
-    let l = midOf (a .pos) (length (a .out .now) - a .pos) (a .out .now) in
-    lent (a .out .now) (a .pos) (bytesAt (piecesIn (a .tape .now)) (val s)) (o .room) (p .0 ∙ ap (putLength l) b) (p .1 ∙ ap (putInto l) b)
-
-add-result : tie.Need-add-result
-add-result c = let p = c .before .before .before .before .before .before .before .before .before .pre in omega (arith, returns c (p .0) (p .1) .ends, p .1 .room)
+returns c s o = lent (put (c .before) s o) (c .behind .ensures)
 
 pub put-first-spec : {M : Type 1} → statement M
 put-first-spec =
@@ -64,6 +78,6 @@ put-first-spec =
     part-put-scalar-start
     part-put-scalar-end
     put-scalar-requires
-    add-result
+    behind-requires
     same-length
     returns)

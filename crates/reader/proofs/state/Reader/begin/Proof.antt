@@ -4,6 +4,7 @@ use borrow.Author.Needs.{needs}
 use Rattle.layout.proofs.Short.{laid-short}
 use Rattle.layout.specs.Said.{trailerSaid}
 use Rattle.reader.specs.Next.{begin}
+use Rattle.reader.specs.Said.{numberOf, valuesOf}
 use Rattle.reader.proofs.state.Reader.begin.Statement.{statement}
 use Rattle.reader.proofs.state.Reader.begin.Tie as tie
 
@@ -30,11 +31,11 @@ unfolding trailerSaid
 at-root-requires c κs = laid-short (c .before .before .before .before .before .args .file .now) _ _ (sym (c .before .before .before .trailer-of .ensures) ∙ ap trailerSaid (c .before .layout .given .1))
 
 returns : tie.Need-returns
-unfolding begin trailerSaid
+unfolding begin trailerSaid numberOf valuesOf
 returns c = rw (sym (c .before .before .before .before .trailer-of .ensures) ∙ ap trailerSaid (c .before .before .refusal .given .1)) (c .kept .ensures)
 
 returns-2 : tie.Need-returns-2
-unfolding begin trailerSaid
+unfolding begin trailerSaid numberOf valuesOf
 returns-2 c = rw (sym (c .before .before .before .before .trailer-of .ensures) ∙ ap trailerSaid (c .before .before .refusal2 .given .1)) (c .ended .ensures)
 
 returns-3 : tie.Need-returns-3

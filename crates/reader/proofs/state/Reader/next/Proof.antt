@@ -7,14 +7,15 @@ use borrow.Author.Needs.{needs}
 use Rattle.number.specs.Width.{widthOf}
 use Rattle.layout.specs.Frame.{nextIn}
 use Rattle.layout.specs.Looked.{container}
-use Rattle.layout.specs.Said.{shapeSaid, lookSaid, numberOf, valuesOf}
+use Rattle.layout.specs.Said.{shapeSaid, lookSaid, numberOf as fileNumber, valuesOf as fileValues}
+use Rattle.layout.specs.SaidLaws.{number-listed, dueSaid-one}
 use Rattle.layout.specs.declared.layout.Due.the-variants.{Close, Member}
 use Rattle.reader.specs.Next.{goOn, withRefs, nextOf}
 use Rattle.reader.specs.NextLaws.{next-ended, next-begin, next-long, next-other, next-many, next-on, next-due}
-use Rattle.reader.specs.Said.{said, stepSaid}
+use Rattle.reader.specs.Said.{numberOf, valuesOf, said, stepSaid}
 use Rattle.reader.specs.State.{openOf, innermost}
 use Rattle.reader.specs.declared.state.Reader.{Reader}
-use Rattle.reader.proofs.Steps.{Going, due, looked, is-wrong, is-last, closes, Named, is-refused, passes, counts, Holding, is-again, is-deep, enters, short-number, short-count}
+use Rattle.reader.proofs.Steps.{Going, due, looked, is-wrong, is-last, closes, Named, is-missing, is-refused, passes, counts, Holding, is-again, is-deep, enters, short-number, short-count}
 use Rattle.reader.proofs.state.Reader.next.Statement.{statement}
 use Rattle.reader.proofs.state.Reader.next.Tie as tie
 
@@ -45,11 +46,11 @@ going c =
 -- what is due: the innermost container's end, or an object
 due-close : (c : tie.After-offset) → due (going (c .before .before .before .before)) ≡ Close (c .offset .given .0 .0)
 unfolding innermost
-due-close c = sym (c .before .before .due-at .ensures) ∙ c .offset .given .1
+due-close c = sym (dueSaid-one _ _ (c .before .before .due-at .ensures)) ∙ c .offset .given .1
 
 due-member : (c : tie.After-object) → due (going (c .before .before .before .before)) ≡ Member (c .object .given .0 .0)
 unfolding innermost
-due-member c = sym (c .before .before .due-at .ensures) ∙ c .object .given .1
+due-member c = sym (dueSaid-one _ _ (c .before .before .due-at .ensures)) ∙ c .object .given .1
 
 abbrev named : tie.After-object → Named
 named c = record { going = going (c .before .before .before .before); object = c .object .given .0 .0; is = due-member c }
@@ -76,7 +77,7 @@ kept-requires : tie.Need-kept-requires
 kept-requires c κs = search needs
 
 returns-3 : tie.Need-returns-3
-unfolding numberOf valuesOf
+unfolding numberOf valuesOf fileNumber fileValues
 returns-3 c = c .kept .ensures ∙ sym (next-long (c .before .before .before .before .before .args .file .now) (c .before .before .before .before .before .args .t1) (c .before .before .before .if1 .left) (c .before .before .if2 .left) (c .before .if3 .taken))
 
 cast-if4 : tie.Need-cast-if4
@@ -150,7 +151,7 @@ kept-requires-6 c κs = search needs
 
 returns-8 : tie.Need-returns-8
 unfolding innermost numberOf valuesOf
-returns-8 c = c .kept6 .ensures ∙ is-wrong (going (c .before .before .before .before .before)) (sym (c .before .before .before .due-at .ensures) ∙ c .before .enum-told3 .given .1)
+returns-8 c = c .kept6 .ensures ∙ is-wrong (going (c .before .before .before .before .before)) (sym (dueSaid-one _ _ (c .before .before .before .due-at .ensures)) ∙ c .before .enum-told3 .given .1)
 
 enum-known-offset : tie.Need-enum-known-offset
 enum-known-offset c = search needs
@@ -162,8 +163,8 @@ returns-9 : tie.Need-returns-9
 unfolding stepSaid
 returns-9 c = rw (c .handed .ensures) (is-last (going (c .before .before .before .before .before .before .before)) _ (due-close (c .before .before .before)) (c .before .if6 .taken))
 
-mul-t53 : tie.Need-mul-t53
-mul-t53 c = search needs
+mul-t54 : tie.Need-mul-t54
+mul-t54 c = search needs
 
 element-set-from-self : tie.Need-element-set-from-self
 element-set-from-self c = search needs
@@ -181,15 +182,27 @@ enum-known-object c = search needs
 look-up-requires : tie.Need-look-up-requires
 look-up-requires c κs = search needs
 
+enum-told-4 : tie.Need-enum-told-4
+enum-told-4 c = search needs
+
+kept-requires-7 : tie.Need-kept-requires-7
+kept-requires-7 c κs = search needs
+
+returns-11 : tie.Need-returns-11
+unfolding numberOf valuesOf lookSaid
+returns-11 c = c .kept7 .ensures ∙ is-missing (named (c .before .before .before .before .before)) (sym (c .before .before .before .look-up .ensures .0) ∙ ap lookSaid (c .before .enum-told4 .given .1))
+
 enum-known-refusal : tie.Need-enum-known-refusal
 enum-known-refusal c = search needs
 
-refused-requires : tie.Need-refused-requires
-refused-requires c κs = search needs
+ended-requires : tie.Need-ended-requires
+ended-requires c κs = search needs
 
-returns-11 : tie.Need-returns-11
-unfolding lookSaid
-returns-11 c = c .refused .ensures ∙ is-refused (named (c .before .before .before .before .before .before)) _ _ _ (sym (c .before .before .before .before .look-up .ensures .0) ∙ ap lookSaid (c .before .before .refusal .given .1))
+returns-12 : tie.Need-returns-12
+unfolding numberOf valuesOf lookSaid
+returns-12 c =
+    let e = sym (c .before .before .before .before .look-up .ensures .0) ∙ ap lookSaid (c .before .before .refusal .given .1) in
+    c .ended .ensures ∙ is-refused (named (c .before .before .before .before .before .before)) _ _ _ (number-listed (c .before .before .refusal .given .0 .0)) e
 
 enum-known-event : tie.Need-enum-known-event
 enum-known-event c = search needs
@@ -213,9 +226,9 @@ way-write-given-self c = search needs
 handed-requires-3 : tie.Need-handed-requires-3
 handed-requires-3 c κs = search needs
 
-returns-12 : tie.Need-returns-12
+returns-13 : tie.Need-returns-13
 unfolding innermost nextIn stepSaid lookSaid
-returns-12 c = rw (c .handed3 .ensures) (passes (named (c .before .before .before .before .before .before .before)) _ _ (sym (c .before .before .before .before .before .look-up .ensures .0) ∙ ap lookSaid (c .before .before .before .event .given .1)))
+returns-13 c = rw (c .handed3 .ensures) (passes (named (c .before .before .before .before .before .before .before)) _ _ (sym (c .before .before .before .before .before .look-up .ensures .0) ∙ ap lookSaid (c .before .before .before .event .given .1)))
 
 enum-known-shape : tie.Need-enum-known-shape
 enum-known-shape c = search needs
@@ -226,19 +239,19 @@ cast-number c = omega (arith, short-number (holding (c .before)))
 is-open-requires : tie.Need-is-open-requires
 is-open-requires c κs = search needs
 
-ended-requires : tie.Need-ended-requires
-ended-requires c κs = search needs
-
-returns-13 : tie.Need-returns-13
-unfolding openOf numberOf valuesOf
-returns-13 c = c .ended .ensures ∙ is-again (holding (c .before .before .before .before .before)) (sym (c .before .before .is-open .ensures) ∙ c .before .if7 .taken)
-
 ended-requires-2 : tie.Need-ended-requires-2
 ended-requires-2 c κs = search needs
 
 returns-14 : tie.Need-returns-14
 unfolding openOf numberOf valuesOf
-returns-14 c = c .ended2 .ensures ∙ is-deep (holding (c .before .before .before .before .before .before)) (sym (c .before .before .before .is-open .ensures) ∙ c .before .before .if7 .left) (c .before .if8 .taken)
+returns-14 c = c .ended2 .ensures ∙ is-again (holding (c .before .before .before .before .before)) (sym (c .before .before .is-open .ensures) ∙ c .before .if7 .taken)
+
+ended-requires-3 : tie.Need-ended-requires-3
+ended-requires-3 c κs = search needs
+
+returns-15 : tie.Need-returns-15
+unfolding openOf numberOf valuesOf
+returns-15 c = c .ended3 .ensures ∙ is-deep (holding (c .before .before .before .before .before .before)) (sym (c .before .before .before .is-open .ensures) ∙ c .before .before .if7 .left) (c .before .if8 .taken)
 
 mul-self-3 : tie.Need-mul-self-3
 mul-self-3 c = search needs
@@ -256,11 +269,11 @@ mul-self-4 c = search needs
 way-write-given-self-2 : tie.Need-way-write-given-self-2
 way-write-given-self-2 c = search needs
 
-cast-t80 : tie.Need-cast-t80
-cast-t80 c = omega (arith, short-count (holding (c .before .before .before .before .before .before)))
+cast-t83 : tie.Need-cast-t83
+cast-t83 c = omega (arith, short-count (holding (c .before .before .before .before .before .before)))
 
-mul-t77 : tie.Need-mul-t77
-mul-t77 c = search needs
+mul-t80 : tie.Need-mul-t80
+mul-t80 c = search needs
 
 element-set-from-self-2 : tie.Need-element-set-from-self-2
 element-set-from-self-2 c = search needs
@@ -274,9 +287,9 @@ start-of-requires c κs = search needs
 handed-requires-4 : tie.Need-handed-requires-4
 handed-requires-4 c κs = search needs
 
-returns-15 : tie.Need-returns-15
+returns-16 : tie.Need-returns-16
 unfolding innermost nextIn openOf stepSaid
-returns-15 c =
+returns-16 c =
     rw (c .handed4 .ensures, c .before .start-of .ensures)
     (enters (holding (c .before .before .before .before .before .before .before .before)) (sym (c .before .before .before .before .before .is-open .ensures) ∙ c .before .before .before .before .if7 .left) (c .before .before .before .if8 .left))
 
@@ -314,15 +327,18 @@ next-spec =
     enum-known-offset
     handed-requires
     returns-9
-    mul-t53
+    mul-t54
     element-set-from-self
     handed-requires-2
     returns-10
     enum-known-object
     look-up-requires
-    enum-known-refusal
-    refused-requires
+    enum-told-4
+    kept-requires-7
     returns-11
+    enum-known-refusal
+    ended-requires
+    returns-12
     enum-known-event
     mul-self
     element-copy-out-self
@@ -330,23 +346,23 @@ next-spec =
     mul-self-2
     way-write-given-self
     handed-requires-3
-    returns-12
+    returns-13
     enum-known-shape
     cast-number
     is-open-requires
-    ended-requires
-    returns-13
     ended-requires-2
     returns-14
+    ended-requires-3
+    returns-15
     mul-self-3
     element-copy-out-self-2
     add-self-2
     mul-self-4
     way-write-given-self-2
-    cast-t80
-    mul-t77
+    cast-t83
+    mul-t80
     element-set-from-self-2
     add-self-3
     start-of-requires
     handed-requires-4
-    returns-15)
+    returns-16)

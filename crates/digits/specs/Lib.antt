@@ -1,0 +1,13 @@
+pub mod Again
+pub mod AgainLaws
+pub mod Ascii
+pub mod Computed
+pub mod Digits
+pub mod DigitsLaws
+pub mod Each
+pub mod Examples
+pub mod Put
+pub mod PutLaws
+pub mod Sign
+pub mod Stamp
+pub mod StampLaws
