@@ -3,7 +3,7 @@
 
 A block begins with `events`. Lines are compared one by one: events and the numbers of refusals always, places except
 where the oracle prints `-`. A block that the oracle ends with `outside ..` is compared up to that line; there ours must
-go on with a date, with `refused 15` for the 65th open container, or with the refusal that the line names. Which files
+go on with a date, with `refused 15` for the 513th open container, or with the refusal that the line names. Which files
 document 02 refuses so, and where, is found by model.py too, for every file; the oracle must have found the same. Exit code 1
 on a difference."""
 import collections

@@ -18,7 +18,7 @@ FAMILIES = ["tree", "graphs", "shared", "recursive", "depth", "distinct", "offse
 FIELD_BITS = [1, 32, 8, 8, 32, 32, 64, 64]
 NAMES = {kind: name for name, kind in model.KINDS.items()}
 MARKERS = [0x08, 0x09, 0x10, 0x11, 0x12, 0x13, 0x14, 0x22, 0x23, 0x33, 0x40, 0x50, 0x60, 0x80, 0xA0, 0xD0]  # from 40 on 16 at a time
-HELD = [0, 1, 2, 63, 64, 65, 1 << 32, (1 << 64) - 1]
+HELD = [0, 1, 2, model.MAX_OPEN - 1, model.MAX_OPEN, model.MAX_OPEN + 1, 1 << 32, (1 << 64) - 1]
 
 
 def drawn_file(rng):
@@ -29,7 +29,7 @@ def drawn_file(rng):
 def real_state(rng, file):
     """A state that a fresh reader comes to on this file."""
     state = model.FRESH
-    for _ in range(rng.choice([0, 1, 1, 2, 3, 5, 8, 20, 64, 70, 200])):
+    for _ in range(rng.choice([0, 1, 1, 2, 3, 5, 8, 20, 64, 200, 600, 600, 600])):
         _, after = model.step(file, state)
         if after == model.ENDED and rng.random() < 0.9:
             break
@@ -62,10 +62,10 @@ def forged_state(rng, state):
         elif pick < 0.6:
             fields[7] = rng.choice(HELD)
         elif pick < 0.9:
-            inner = min(max(fields[7] - 1, 0), 63)
+            inner = min(max(fields[7] - 1, 0), model.MAX_OPEN - 1)
             frames[inner] = forged_frame(rng, frames[inner])
         else:
-            at = rng.randrange(64)
+            at = rng.choice([rng.randrange(8), rng.randrange(64), model.MAX_OPEN - 1])
             frames[at] = forged_frame(rng, frames[at])
     return tuple(fields) + (tuple(frames),)
 
@@ -177,10 +177,10 @@ def sort_of(line):
 
 
 def sample(stdin, stdout):
-    """300 lines, as even over the sorts of answers as can be."""
+    """300 lines, as even over the sorts of answers as can be. With 512 open, 15, a line is long."""
     by_sort = collections.defaultdict(list)
     for line, answer, said in cases("sample", 20000):
-        if len(line) < 1500:
+        if len(line) < (12000 if sort_of(said) == "refused 15" else 1500):
             by_sort[sort_of(said)].append((line, answer))
     chosen = []
     while len(chosen) < 300:

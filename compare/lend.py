@@ -21,7 +21,7 @@ from generator import worked, write_families
 
 RECORDED = pathlib.Path(__file__).parent / "recorded"
 FILLING = b"\xaa"
-DRAWN = 160  # bytes of a drawn tape
+DRAWN = 160  # bytes of a drawn tape, but for deep ones
 CHUNK = 380  # lines for one run of the program, whose buffer holds so many
 DATED = 20  # tapes with dates in the sample, drawn
 SMALL = 40  # bytes of a tape in the sample that is lent words and output
@@ -31,7 +31,7 @@ def drawn(seed):
     generators = {name: random.Random(f"{seed} {name}") for name in write_families.FAMILIES}
     for name in itertools.cycle(generators):
         tape = write_families.FAMILIES[name](generators[name])
-        if len(tape) <= DRAWN:
+        if len(tape) <= DRAWN or name == "depth":
             yield tape
 
 

@@ -3,7 +3,7 @@
 Written from document 01 ("Reader rules", "Refusal numbers") and the project's decisions on what it leaves open. It shares
 nothing with the proved code. A state is a tuple:
 
-    (fresh, length, offsets, refs, count, table, place, held, frames)   frames: 64 triples (object, position, length)
+    (fresh, length, offsets, refs, count, table, place, held, frames)   frames: 512 triples (object, position, length)
 
 A record is a kind, a value and an offset. A signed integer's value is its 64 bits, a real's and a date's too.
 """
@@ -12,7 +12,7 @@ import struct
 import dates
 
 MAX_LENGTH = 2_147_483_648
-MAX_OPEN = 64
+MAX_OPEN = 512
 SIZES = (1, 2, 3, 4, 8)
 # The tape's kinds, but that 4 is an integer by its 64 bits; and a NaN by any bits.
 KINDS = {

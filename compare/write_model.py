@@ -4,7 +4,7 @@ Written from docs/FORMAT.md (T, G, W), whose rules are named here, and document 
 the builders of tapes."""
 
 MAX_LENGTH = 2_147_483_648
-MAX_OPEN = 64
+MAX_OPEN = 512
 WORDS = 8  # for each event
 SIZES = (1, 2, 4, 8)
 SCALARS = {3: "Integer", 4: "Integer", 5: "Real", 6: "Date", 7: "Uid", 8: "Data", 9: "String"}

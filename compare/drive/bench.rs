@@ -48,6 +48,8 @@ fn inputs() -> Vec<(&'static str, Vec<u8>)> {
         ("10,000 strings", strings()),
         ("10,000 numbers", numbers()),
         ("arrays 64 deep", nested(64)),
+        ("arrays 200 deep", nested(200)),
+        ("arrays 512 deep", nested(512)),
         ("2,000 small dictionaries", dictionaries()),
         ("20 UTF-16 texts of 5,000 units", wide_texts()),
         ("10,000 ASCII texts of 8", texts(ASCII, 8, 10_000)),
@@ -84,9 +86,10 @@ fn numbers() -> Vec<u8> {
 }
 
 fn nested(levels: usize) -> Vec<u8> {
-    let mut objects: Vec<Vec<u8>> = (1..levels).map(|i| array(&[i], 1, None)).collect();
-    objects.push(array(&[], 1, None));
-    build(&objects, shape(2, 1))
+    let size = if levels <= 256 { 1 } else { 2 };
+    let mut objects: Vec<Vec<u8>> = (1..levels).map(|i| array(&[i], size, None)).collect();
+    objects.push(array(&[], size, None));
+    build(&objects, shape(2, size))
 }
 
 fn dictionaries() -> Vec<u8> {

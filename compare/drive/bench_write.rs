@@ -72,6 +72,8 @@ fn inputs() -> [(&'static str, fn() -> Vec<u8>); 15] {
         ("10,000 numbers", numbers),
         ("2,000 small dictionaries", dictionaries),
         ("arrays 64 deep", || nested(64)),
+        ("arrays 200 deep", || nested(200)),
+        ("arrays 512 deep", || nested(512)),
         ("20 texts that are not ASCII", wide_texts),
         ("10 ASCII texts of 100,000", long_texts),
         ("one data of 10,000,000", one_data),

@@ -440,28 +440,32 @@ fn recursive(random: &mut Random, _: &Stock) -> Vec<u8> {
     build(&objects, PLAIN)
 }
 
-/// About 64 containers, each inside the last; the last may refer back up.
+/// About 512 containers, or fewer, each inside the last; the last may refer back up.
 fn depth(random: &mut Random, _: &Stock) -> Vec<u8> {
-    let levels = 60 + random.below(9);
+    let levels = match random.below(3) {
+        0 => 508 + random.below(9),
+        _ => 2 + random.below(68),
+    };
     let mut objects = Vec::new();
     for index in 1..levels {
         objects.push(match random.below(3) {
-            0 => dictionary(&[levels, index], 1, None),
-            _ => array(&[index], 1, None),
+            0 => dictionary(&[levels, index], 2, None),
+            _ => array(&[index], 2, None),
         });
     }
     objects.push(match random.below(6) {
-        0 => array(&[levels], 1, None),
-        1 => array(&[random.below(levels)], 1, None),
-        2 => array(&[levels - 1], 1, None),
+        0 => array(&[levels], 2, None),
+        1 => array(&[random.below(levels)], 2, None),
+        2 => array(&[levels - 1], 2, None),
         3 => head(10, 99, None),
-        _ => array(&[], 1, None),
+        _ => array(&[], 2, None),
     });
     objects.push(text8(b"k"));
     build(
         &objects,
         Shape {
             offset_size: 2,
+            ref_size: 2,
             ..PLAIN
         },
     )

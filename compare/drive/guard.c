@@ -8,7 +8,7 @@
 
 #include "zurrimannu.h"
 
-enum { PAGES = 4, BUDGET = 200, FILLING = 0xa5 };
+enum { PAGES = 9, BUDGET = 1100, FILLING = 0xa5 };
 
 static void stop(const char *why) {
     fprintf(stderr, "guard: %s\n", why);

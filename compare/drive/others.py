@@ -21,6 +21,7 @@ import write_model  # noqa: E402
 EPOCH = datetime.datetime(2001, 1, 1)
 SECONDS = 1 << 31
 SHOWN = 5
+sys.setrecursionlimit(20_000)  # values, and plistlib, go down as deep as the containers
 
 
 class Lacks(Exception):

@@ -24,8 +24,8 @@ use theirs::{Answer, Watched};
 
 const USAGE: &str = "usage: reads RECORDED REAL [--seed N] [--count N]";
 
-/// Events after which both sides stop. Shared containers make a small file very long.
-const CAP: u64 = 500;
+/// Events after which both sides stop: more than 512 arrays have, each inside the last. Shared containers make a small file very long.
+const CAP: u64 = 1100;
 /// A file that is changed at every byte has at most this many.
 const CHANGED_MOST: usize = 4096;
 /// A file of which every cut and every change is tried.
@@ -283,7 +283,7 @@ impl Judge {
         }
         println!("{:>10} of these with a place that is compared", self.places);
         println!(
-            "outside: {} at a date, {} at the 65th open container, {} at an odd length byte (31), {} at an object that crosses T (6), {} at a date that is none (34)",
+            "outside: {} at a date, {} at the 513th open container, {} at an odd length byte (31), {} at an object that crosses T (6), {} at a date that is none (34)",
             self.dates, self.depths, self.added[31], self.added[6], self.added[34]
         );
         if let Some((file, difference)) = &self.smallest {

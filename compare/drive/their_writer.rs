@@ -10,9 +10,9 @@ use crate::{
     tape::{self, Item},
 };
 
-/// Document 01: the most bytes of a tape or a file, and the most containers that are open at once.
+/// Documents 01 and 02: the most bytes of a tape or a file, and the most containers that are open at once.
 pub const MAX_LENGTH: usize = 1 << 31;
-const MAX_OPEN: usize = 64;
+const MAX_OPEN: usize = 512;
 
 /// The kinds of events that 21 names, by their numbers: crates/exports/specs/Write.antt.
 const KINDS: [&str; 13] = [

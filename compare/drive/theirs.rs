@@ -8,8 +8,8 @@ use plist::{
     Refusal,
 };
 
-/// Document 01: at most this many containers are open at once.
-const MAX_OPEN: usize = 64;
+/// Document 02: at most this many containers are open at once.
+const MAX_OPEN: usize = 512;
 
 pub enum Answer {
     Event(Event<'static>),
@@ -18,7 +18,7 @@ pub enum Answer {
     Refused(u8, u8, Option<u64>),
     /// A date, or one that the crate refuses and document 02 doesn't: nothing is compared from here on.
     Date,
-    /// The 65th open container, which document 01 refuses.
+    /// The 513th open container, which document 02 refuses.
     Depth,
     /// An object that document 02 refuses, with our number and its offset.
     Added(u8, u64),

@@ -222,9 +222,12 @@ fn numbering(random: &mut Random, _: &Stock, tape: &mut Vec<u8>) {
     part(random, tape, 4, &mut 0);
 }
 
-/// About 64 containers, each inside the last; now and then one more where a key is due.
+/// About 512 containers, or fewer, each inside the last; now and then one more where a key is due.
 fn depth(random: &mut Random, _: &Stock, tape: &mut Vec<u8>) {
-    let levels = 61 + random.below(7);
+    let levels = match random.below(3) {
+        0 => 509 + random.below(7),
+        _ => 2 + random.below(68),
+    };
     let lone = random.below(4 * levels);
     for level in 0..levels {
         match random.below(8) {

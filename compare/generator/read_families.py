@@ -9,7 +9,7 @@ import plistlib
 from . import edges, worked
 from .bplist import (
     MAGIC, SIZES, array, be, build, data, dictionary, head, text16, text8, trailer, uid,
-    with_table_first,
+    width_of, with_table_first,
 )
 from .samples import samples
 
@@ -273,15 +273,15 @@ def recursive(rng):
 
 
 def depth(rng):
-    """About 64 containers, each inside the last; the last may refer back up."""
-    levels = rng.randrange(60, 69)
-    key = levels
+    """About 512 containers, or fewer, each inside the last; the last may refer back up."""
+    levels = rng.choice((rng.randrange(508, 517), rng.randrange(2, 70), rng.randrange(2, 70)))
+    key, size = levels, width_of(levels)
     objects = []
     for index in range(levels - 1):
         below = index + 1
-        objects.append(rng.choice((array([below]), array([below]), dictionary([key], [below]))))
-    last = rng.choice((array([]), array([]), array([key]), array([0]), array([levels - 1]), head(10, 99)))
-    return build(objects + [last, text8(b"k")])
+        objects.append(rng.choice((array([below], size), array([below], size), dictionary([key], [below], size))))
+    last = rng.choice((array([]), array([]), array([key], size), array([0], size), array([levels - 1], size), head(10, 99)))
+    return build(objects + [last, text8(b"k")], ref_size=size)
 
 
 # --- lengths and offsets --------------------------------------------------------------------------

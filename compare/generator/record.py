@@ -133,16 +133,21 @@ def model_block(file):
 
 
 def added_list(oracle):
-    """Dates at document 02's limits, then files with an object that its added rules refuse, answered by the model."""
+    """Dates at document 02's limits, files that are too deep, then files with an object that its added rules refuse, answered by the model."""
     dates = [("dates", each, model_block(each)) for each in worked.dates()]
     named = list(pool(worked.files() + worked.kinds(), read_families.FAMILIES))
     answers = blocks(ask(oracle, "read", [each for _, each in named]))
+    deep = [
+        ("deep", each, model_block(each))
+        for (name, each), block in zip(named, answers, strict=True)
+        if name == "worked" and block.endswith("outside depth\n")
+    ]
     candidates = [
         (name, each, model_block(each))
         for (name, each), block in zip(named, answers, strict=True)
         if re.search(r"(?m)^outside \d+ at \d+$", block)
     ]
-    return dates + [candidates[i] for i in choose(candidates, reader_shows, ADDED_INPUTS)]
+    return dates + deep + [candidates[i] for i in choose(candidates, reader_shows, ADDED_INPUTS)]
 
 
 def tape_list(oracle):
@@ -169,6 +174,21 @@ def check_reader(chosen):
             sys.exit(f"record: refusal {number} stands at too few places")
 
 
+def check_deep(files, added, tapes):
+    """What plistlib wrote is read as its values, by the crate and, where it is too deep, by the model up to the container that is refused;
+    and the crate writes the values as the very same file."""
+    read, refused, written = ({each: answer for _, each, answer in chosen} for chosen in (files, added, tapes))
+    for depth, keyed in worked.DEPTHS:
+        file, lines, line = worked.deep(depth, keyed), worked.deep_lines(depth, keyed), written[worked.deep_tape(depth, keyed)]
+        if depth <= model.MAX_OPEN:
+            good = read[file] == f"events\n{lines}end\nthen end\nthen end\n" and line == f"file {file.hex()}\n"
+        else:
+            events, _, rest = refused[file].partition("refused 15 at ")
+            good = f"events\n{lines}".startswith(events) and rest.endswith("\nthen end\nthen end\n") and line.startswith("outside 15 at ")
+        if not good:
+            sys.exit(f"record: {depth} containers, each inside the last, are not read or written as they should be")
+
+
 def save(folder, inputs_name, answers_name, chosen):
     (folder / inputs_name).write_text("".join(each.hex() + "\n" for _, each, _ in chosen))
     (folder / answers_name).write_text("".join(answer for _, _, answer in chosen))
@@ -180,6 +200,7 @@ def main():
     check_reader(files)
     tapes = tape_list(oracle)
     added = added_list(oracle)
+    check_deep(files, added, tapes)
     save(folder, "reader-inputs.txt", "reader-answers.txt", files)
     save(folder, "added-inputs.txt", "added-answers.txt", added)
     save(folder, "writer-tapes.txt", "writer-answers.txt", tapes)

@@ -1,9 +1,11 @@
 """Document 01's own cases, as files and as tapes, and the calls that its rules single out."""
 
+import functools
+import plistlib
+import sys
+
 from . import edges, tape
-from .bplist import (
-    MAGIC, array, be, build, data, dictionary, text16, text8, trailer, uid, with_table_first,
-)
+from .bplist import MAGIC, array, be, build, data, dictionary, text16, text8, trailer, uid, with_table_first
 
 FULL = b"\xff"
 
@@ -12,9 +14,38 @@ def one(hexed):
     return build([bytes.fromhex(hexed)])
 
 
-def chain(depth):
-    """Arrays, each inside the last."""
-    return build([array([i + 1]) for i in range(depth - 1)] + [array([])])
+@functools.cache
+def deep(depth, keyed):
+    """Arrays, each inside the last, as Python's plistlib writes them. With `keyed` each third one is a dictionary of one key."""
+    value = []
+    for level in range(1, depth):
+        value = {"k": value} if keyed and level % 3 == 0 else [value]
+    least = sys.getrecursionlimit()
+    sys.setrecursionlimit(least + 10 * depth)  # its writer goes down with the value
+    try:
+        return plistlib.dumps(value, fmt=plistlib.FMT_BINARY)
+    finally:
+        sys.setrecursionlimit(least)
+
+
+def outwards(depth, keyed, key, array):
+    """What stands for a dictionary or an array around each other one, the outermost first."""
+    return [key if keyed and level % 3 == 0 else array for level in reversed(range(1, depth))]
+
+
+def deep_tape(depth, keyed):
+    """The tape of the same value, without lengths."""
+    starts = outwards(depth, keyed, tape.start_dictionary() + tape.text("k"), tape.start_array())
+    return b"".join(starts) + tape.start_array() + tape.END * depth
+
+
+def deep_lines(depth, keyed):
+    """The events of the same value, as `oracle read` prints them."""
+    return "".join(outwards(depth, keyed, "dict 1\nstr 1 6b\n", "array 1\n")) + "array 0\n" + "close\n" * depth
+
+
+# How deep, and whether with dictionaries: well below the limit, and about it.
+DEPTHS = [(depth, keyed) for keyed in (False, True) for depth in (200, 511, 512, 513)]
 
 
 def dictionary_at_9(length, trailer_at):
@@ -46,9 +77,7 @@ def files():
         dictionary_at_9(0x1E, 39),
         dictionary_at_9(0x1D, 39),
         dictionary_at_9(0x1E, 38),
-        chain(63),
-        chain(64),
-        chain(65),
+        *(deep(*each) for each in DEPTHS),
         # A container seen twice side by side is no recursion.
         build([array([1, 1]), array([2]), b"\x09"]),
         # Recursion at the second and third level, and from a dictionary.
@@ -118,14 +147,16 @@ def date_tapes():
 
 def tapes():
     key = tape.text("k")
-    nested = tape.start_array() * 64 + tape.END * 64
     return [
         tape.TRUE,  # P9
         tape.array(tape.integer(1), tape.text("a"), tape.integer(1)),  # P10
         tape.dictionary(key, tape.array(key, tape.integer(-1))),  # P11
-        nested,
-        tape.start_array() * 65 + tape.END * 65,
-        tape.start_dictionary() + key + tape.start_array() * 63 + tape.END * 64,
+        *(deep_tape(*each) for each in DEPTHS),
+        # 15 at other offsets: with lengths given, with keys, and where nothing follows.
+        tape.start_array(1) * 513 + tape.END * 513,
+        (tape.start_dictionary() + key) * 513,
+        tape.start_dictionary() + key + tape.start_array() * 511 + tape.END * 512,
+        tape.start_dictionary() + key + tape.start_array() * 512,
         # These two fix the numbering of objects, which P10 and P11 leave open.
         tape.array(tape.array(tape.integer(1)), tape.text("a")),
         tape.dictionary(tape.text("a"), tape.integer(1), key, tape.text("a")),
@@ -135,8 +166,8 @@ def tapes():
         tape.start_dictionary() + tape.TRUE,
         tape.start_dictionary() + tape.start_array(),
         tape.start_dictionary() + tape.start_dictionary(3),
-        # 64 open and a container where a key is due: 21 comes before 15.
-        tape.start_array() * 63 + tape.start_dictionary() + tape.start_array(),
+        # 512 open and a container where a key is due: 21 comes before 15.
+        tape.start_array() * 511 + tape.start_dictionary() + tape.start_array(),
         # 22 and 23.
         b"",
         tape.start_array(),

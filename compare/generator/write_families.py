@@ -119,8 +119,8 @@ def numbering(rng):
 
 
 def depth(rng):
-    """About 64 containers, each inside the last; now and then one more where a key is due."""
-    levels = rng.randrange(61, 68)
+    """About 512 containers, or fewer, each inside the last; now and then one more where a key is due."""
+    levels = rng.choice((rng.randrange(509, 516), rng.randrange(2, 70), rng.randrange(2, 70)))
     starts = [tape.start_array(), tape.start_dictionary() + tape.text("k")]
     opened = [rng.choice(starts) if rng.randrange(8) == 0 else starts[0] for _ in range(levels)]
     if rng.randrange(4) == 0:

@@ -21,8 +21,8 @@ use crate::{
 
 pub const DEFAULT_CAP: usize = 2000;
 
-/// Document 01: at most this many containers are open at once.
-pub const MAX_OPEN: usize = 64;
+/// Document 02: at most this many containers are open at once.
+pub const MAX_OPEN: usize = 512;
 
 /// How many times `next` is called again after the end or a refusal.
 const CALLS_AFTER: usize = 2;

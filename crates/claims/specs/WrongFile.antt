@@ -50,7 +50,7 @@ pub record Keeps (r : Reader) (l : Layout) : Type 0 where
 pub data WrongState (file : List ℕ) (r : Reader) : Type 0 where
   -- "the state's file length differs"
   otherLength : (r .length ≡ length file → ⊥) → WrongState file r
-  -- "it claims over 64 open"
+  -- it claims more open containers than there may be
   tooMany : maxOpen < r .depth → WrongState file r
   -- "its sizes aren't allowed ones"
   offsetSize : widthOf (r .offsets) ≡ NotAllowed → WrongState file r

@@ -8,7 +8,7 @@ maxLength = 2_147_483_648
 
 -- how many containers are open at once, at most (R16, G6)
 abbrev pub maxOpen : ℕ
-maxOpen = 64
+maxOpen = 512
 
 -- a file's first bytes: "bplist00"
 unfoldable pub magic : List ℕ

@@ -6,7 +6,7 @@ ghost use Rattle.event.specs.Format.{maxLength, maxOpen};
 pub const MAX_LENGTH: usize = 2_147_483_648;
 
 // The most containers that are open at once.
-pub const MAX_OPEN: usize = 64;
+pub const MAX_OPEN: usize = 512;
 
 // The constants are what the definitions say.
 pub fn max_length() -> usize

@@ -54,11 +54,11 @@ pub refusals :
 unfolding computed
 refusals = refl
 
--- 64 arrays, each in the last; 65, which gives 15 at the 65th; a dictionary in 63 of them, where an array comes as a key: 21 comes before 15
+-- 512 arrays, each in the last; 513, which gives 15 at the 513th; a dictionary in 511 of them, where an array comes as a key: 21 comes before 15
 pub deep :
     map checkOf
-    ((replicate 64 0x0A ++ replicate 64 0x0E) ∷ replicate 65 0x0A ∷ (replicate 63 0x0A ++ (0x0C ∷ 0x0A ∷ [])) ∷ []) ≡
-    (whole 128 ∷ refused 15 [] 64 ∷ refused 21 (DictionaryKeyOrEndCollection ∷ StartArray ∷ []) 64 ∷ [])
+    ((replicate 512 0x0A ++ replicate 512 0x0E) ∷ replicate 513 0x0A ∷ (replicate 511 0x0A ++ (0x0C ∷ 0x0A ∷ [])) ∷ []) ≡
+    (whole 1024 ∷ refused 15 [] 512 ∷ refused 21 (DictionaryKeyOrEndCollection ∷ StartArray ∷ []) 512 ∷ [])
 unfolding computed
 deep = refl
 

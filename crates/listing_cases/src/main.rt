@@ -1,5 +1,5 @@
-// Lists files of data/, one behind the other: P10 of docs/FORMAT.md, dates, files that are refused, input as long as may be and a byte longer, and
-// listings that are as long as may be, which are counted and not shown.
+// Lists files of data/, one behind the other: P10 of docs/FORMAT.md, dates, files that are refused, input as long as may be and a byte longer. Long
+// listings are counted and not shown: of containers as deep as may be and one too deep, and those that are as long as may be.
 use libc::STDOUT_FILENO;
 use say::list::list_input;
 
@@ -11,12 +11,14 @@ fn main() {
     show(b"sizes");
     show(b"recursive");
     show(b"surrogate");
-    show(b"deep");
     show(b"wide");
     fill();
     show(b"zeros");
     lengthen();
     show(b"zeros");
+    // 512 arrays, each inside the last; 513
+    count(b"deep-512");
+    count(b"deep-513");
     // 65,535 events; one more, which are as many as are listed; 65,540
     count(b"events-65535");
     count(b"events-65536");

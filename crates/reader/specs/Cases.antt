@@ -2,11 +2,11 @@
 use mathlib.Core.List.{List, [], _∷_, _++_, map}
 use mathlib.Core.Option.{some}
 use mathlib.Core.Path.{_≡_, refl}
-use Prim.Native.Nat.{ℕ, zero, suc, _+_, _*_}
+use Prim.Native.Nat.{ℕ, _+_}
 use lib.IntN.{pos, negsuc}
-use lib.ListN.{length, replicate, drop}
+use lib.ListN.{length, replicate}
 use Rattle.event.specs.Format.{magic}
-use Rattle.event.specs.Meaning.{array, close, date, integer, bytes, text}
+use Rattle.event.specs.Meaning.{array, date, integer, bytes, text}
 use Rattle.reader.specs.Computed.{computed}
 use Rattle.reader.specs.Meanings.{Told, means, ended, refused, answers}
 use Rattle.reader.specs.State.{freshReader}
@@ -49,24 +49,3 @@ cases =
 pub cases-right : map (λ (c : Case). answers 3 (c .file) freshReader) cases ≡ map (λ (c : Case). c .answer) cases
 unfolding computed
 cases-right = refl
-
--- n arrays, each inside the last, from 8 on, and the table of their offsets
-abbrev inside : ℕ → ℕ → List ℕ
-inside zero i = 0xA0 ∷ []
-inside (suc n) i = 0xA1 ∷ i ∷ inside n (i + 1)
-
-abbrev offsets : ℕ → ℕ → List ℕ
-offsets zero at = at ∷ []
-offsets (suc n) at = at ∷ offsets n (at + 2)
-
-abbrev pub nested : ℕ → List ℕ
-nested n = magic ++ inside n 1 ++ offsets n 8 ++ trailer (n + 1) (9 + 2 * n)
-
--- the case "depth": 64 arrays, each in the one before, are read; with 65, 15 comes at the offset of the 65th
-pub deep-64 : drop 63 (answers 65 (nested 63) freshReader) ≡ means (array (some 0)) 134 ∷ means close 134 ∷ []
-unfolding computed
-deep-64 = refl
-
-pub deep-65 : drop 63 (answers 66 (nested 64) freshReader) ≡ means (array (some 1)) 134 ∷ refused 15 [] 136 ∷ ended ∷ []
-unfolding computed
-deep-65 = refl

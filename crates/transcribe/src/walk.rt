@@ -46,8 +46,8 @@ pub(crate) fn walk(
     let mut frames = [Frame::NONE; Reader::MAX_OPEN];
     // their numbers once more, to be lent and searched: a slice of frames can't be lent, and a copy of them would cost 100 instructions
     let mut numbers = [0u32; Reader::MAX_OPEN];
-    // above each of these; a number at or above it need not be searched for. The numbers mostly grow on the way inwards, so at 64 levels
-    // that takes some 60 instructions less
+    // above each of these; a number at or above it need not be searched for. The numbers mostly grow on the way inwards, so with 64
+    // containers open that takes some 60 instructions less
     let mut above: u64 = 0;
     let mut depth: usize = 0;
     let mut place = layout.table as u64;
@@ -166,8 +166,8 @@ fn higher(a: u64, b: u64) -> u64
     if a < b { b } else { a }
 }
 
-// Whether a number is among others. None ends the loop early, so that the compiler compares many at once: at 64 levels that takes some 60
-// instructions less than to stop at the first one.
+// Whether a number is among others. None ends the loop early, so that the compiler compares many at once: with 64 containers open that
+// takes some 60 instructions less than to stop at the first one.
 fn is_among(numbers: &[u32], number: u32) -> bool
     ensures { λ r. ⌜ r ≡ among (now (numbers .entry)) number ⌝ }
 {

@@ -31,12 +31,12 @@ told-ended file (suc m) [] = ap (λ (l : List Told). ended ∷ l) (told-ended fi
 told-ended file m (x ∷ l) = ap (λ (t : List Told). told file x ∷ t) (told-ended file m l)
 
 module _ (file : List ℕ) (l : Layout) (short : length file ≤ maxLength) (trailer : trailerOf file ≡ lays l 0) where
-  next-open : (q k : ℕ) (fr : List Frame) → suc k ≤ maxOpen → nextOf file (inside (laidOut file l) q k fr) ≡ stepOf (sourceOf file l) (inside (laidOut file l) q k fr)
+  pub next-open : (q k : ℕ) (fr : List Frame) → suc k ≤ maxOpen → nextOf file (inside (laidOut file l) q k fr) ≡ stepOf (sourceOf file l) (inside (laidOut file l) q k fr)
   unfolding nextOf laidOut goOn withRefs
   next-open q k fr h =
       rw (ne-eqb (suc k) 0 (λ e. omega arith), le-ltb maxLength (length file) short, eq-eqb (length file) (length file) refl, le-ltb maxOpen (suc k) h, allowed (l .offsets), allowed (l .refs))
 
-  next-first : nextOf file freshReader ≡ arrive (moved (laidOut file l) (l .table) 0 (replicate maxOpen noFrame)) 0 (sourceOf file l .look 0)
+  pub next-first : nextOf file freshReader ≡ arrive (moved (laidOut file l) (l .table) 0 (replicate maxOpen noFrame)) 0 (sourceOf file l .look 0)
   unfolding nextOf begin laidOut sourceOf
   next-first = rw (le-ltb maxLength (length file) short, trailer)
 

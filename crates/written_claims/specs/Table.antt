@@ -1,23 +1,19 @@
 -- THE CASES of docs/FORMAT.md, P, proved together: P1 of sizes; P2 to P8, P12 and two dates of reading; P9 to P11 of writing, with [[1], "a"] and {"a": 1, "k": "a"}, which
--- pin the order of numbers and of bytes, and the reading of these five files; 64 and 65 arrays, each inside the last, written and read.
+-- pin the order of numbers and of bytes, and the reading of these five files. The case "depth" stands in crate depth.
 use mathlib.Core.Bool.{true}
-use mathlib.Core.List.{List, [], _∷_, _++_, map}
+use mathlib.Core.List.{List, [], _∷_, map}
 use mathlib.Core.Option.{some}
 use mathlib.Core.Path.{_≡_, refl}
-use Prim.Native.Nat.{ℕ}
 use lib.IntN.{pos, negsuc}
-use lib.ListN.{replicate, drop}
+use lib.ListN.{replicate}
 use Rattle.number.specs.Cases.{p1}
 use Rattle.number.specs.Size.{sizeOf}
 use Rattle.event.specs.Meaning.{array, dictionary, close, boolean, integer, text}
 use Rattle.reader.specs.Cases as reading
-use Rattle.reader.specs.Meanings.{Told, means, ended, refused, answers}
+use Rattle.reader.specs.Meanings.{Told, means, ended, answers}
 use Rattle.reader.specs.State.{freshReader}
-use Rattle.tape.specs.Events.{meaningsIn}
 use Rattle.written.specs.Examples as writing
 use Rattle.written.specs.File.{fileFor}
-use Rattle.writer.specs.Write.{long, writeOf}
-use Rattle.writer.specs.Write as writer
 use Rattle.written_claims.specs.Computed.{computed}
 
 -- what the first eight calls on the five files answer: each event with its object's offset, then the end
@@ -34,19 +30,6 @@ readings-right : map (λ (c : writing.Case). answers 8 (c .file) freshReader) wr
 unfolding computed
 readings-right = refl
 
--- the tape of n arrays, each inside the last
-abbrev arrays : ℕ → List ℕ
-arrays n = replicate n 0x0A ++ replicate n 0x0E
-
--- 64 of them are written, as the file that the cases of reading have; 65 are refused at the 65th
-arrays-written : fileFor (meaningsIn (arrays 64)) ≡ reading.nested 63
-unfolding computed
-arrays-written = refl
-
-arrays-answered : (writeOf (arrays 64) 1024 231 ≡ long 231) × (writeOf (arrays 65) 1040 234 ≡ writer.refused 15 [] 64)
-unfolding computed
-arrays-answered = (refl, refl)
-
 pub cases :
     -- P1
     (map sizeOf (0 ∷ 255 ∷ 256 ∷ 65_535 ∷ 65_536 ∷ 4_294_967_295 ∷ 4_294_967_296 ∷ []) ≡ 1 ∷ 1 ∷ 2 ∷ 2 ∷ 4 ∷ 4 ∷ 8 ∷ []) ×
@@ -54,12 +37,5 @@ pub cases :
     (map (λ (c : reading.Case). answers 3 (c .file) freshReader) reading.cases ≡ map (λ (c : reading.Case). c .answer) reading.cases) ×
     -- P9, P10, P11, [[1], "a"] and {"a": 1, "k": "a"}: written, and read
     (map (λ (c : writing.Case). fileFor (c .events)) writing.cases ≡ map (λ (c : writing.Case). c .file) writing.cases) ×
-    (map (λ (c : writing.Case). answers 8 (c .file) freshReader) writing.cases ≡ readings) ×
-    -- 64 arrays: written; read, from the 64th start on, with its end
-    (writeOf (arrays 64) 1024 231 ≡ long 231) ×
-    (fileFor (meaningsIn (arrays 64)) ≡ reading.nested 63) ×
-    (drop 63 (answers 65 (reading.nested 63) freshReader) ≡ means (array (some 0)) 134 ∷ means close 134 ∷ []) ×
-    -- 65: both refuse the last one with 15, at its offset in the tape and in the file
-    (writeOf (arrays 65) 1040 234 ≡ writer.refused 15 [] 64) ×
-    (drop 63 (answers 66 (reading.nested 64) freshReader) ≡ means (array (some 1)) 134 ∷ refused 15 [] 136 ∷ ended ∷ [])
-cases = (p1, reading.cases-right, writing.cases-right, readings-right, arrays-answered .0, arrays-written, reading.deep-64, arrays-answered .1, reading.deep-65)
+    (map (λ (c : writing.Case). answers 8 (c .file) freshReader) writing.cases ≡ readings)
+cases = (p1, reading.cases-right, writing.cases-right, readings-right)
