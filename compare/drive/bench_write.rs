@@ -56,7 +56,7 @@ fn main() -> ExitCode {
 // --- the inputs -----------------------------------------------------------------------------------
 
 /// Each is made only when it is its turn.
-fn inputs() -> [(&'static str, fn() -> Vec<u8>); 15] {
+fn inputs() -> [(&'static str, fn() -> Vec<u8>); 17] {
     [
         ("a hold record of some 40 objects", hold_record),
         ("10,000 strings, all equal", || strings(1)),
