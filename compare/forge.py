@@ -17,7 +17,6 @@ from generator import read_families
 FAMILIES = ["tree", "graphs", "shared", "recursive", "depth", "distinct", "offsets", "rooms", "lengths", "scalars", "utf16", "worked", "dates"]
 FIELD_BITS = [1, 32, 8, 8, 32, 32, 64, 64]
 NAMES = {kind: name for name, kind in model.KINDS.items()}
-MARKERS = [0x08, 0x09, 0x10, 0x11, 0x12, 0x13, 0x14, 0x22, 0x23, 0x33, 0x40, 0x50, 0x60, 0x80, 0xA0, 0xD0]  # from 40 on 16 at a time
 HELD = [0, 1, 2, model.MAX_OPEN - 1, model.MAX_OPEN, model.MAX_OPEN + 1, 1 << 32, (1 << 64) - 1]
 
 
@@ -46,7 +45,7 @@ def near(rng, value, bits):
 
 def forged_frame(rng, frame):
     frame = list(frame)
-    at = rng.randrange(3)
+    at = rng.randrange(4)
     frame[at] = near(rng, frame[at], 32) if rng.random() < 0.7 else rng.randrange(6)
     return tuple(frame)
 
@@ -84,72 +83,132 @@ def other_file(rng, file):
     return file + b"\0" if pick < 0.93 else file[:-1]
 
 
+def leading_out(rng, file, state):
+    """A file and a state with an open container that lead behind the file's end: to an entry of the table, or to a reference."""
+    fields, frames, changed = list(state[:8]), list(state[8]), bytearray(file)
+    inner = fields[7] - 1
+    number, _, _, offset = frames[inner]
+    width = fields[2]
+    if rng.random() < 0.5 and width * (number + 1) <= len(file):
+        # its own entry is the file's last number, so that those behind it lie outside
+        changed[-width:] = offset.to_bytes(width, "big")
+        fields[5] = len(file) - width * (number + 1)
+    else:
+        length = near(rng, len(file), rng.choice([8, 16, 32]))
+        changed[offset : offset + 6] = bytes([changed[offset] | 15, 0x12]) + length.to_bytes(4, "big")
+        frames[inner] = (number, rng.randrange(length + 1), length, offset)
+    return bytes(changed), tuple(fields) + (tuple(frames),)
+
+
 def state_input(rng):
     file = drawn_file(rng)
     state = real_state(rng, file)
     pick = rng.random()
-    if pick < 0.55:
+    if pick < 0.03 and state[7]:
+        file, state = leading_out(rng, file, state)
+    elif pick < 0.55:
         state = forged_state(rng, state)
     elif pick < 0.9:
         file = other_file(rng, file)
     return file, state
 
 
-def record_there(rng, file, offset):
+def record_there(rng, file, refs, offset):
     """A kind and a value of a record that reading at an offset gives; any where it gives none."""
+    found = None
     if offset < len(file) - 32:
-        if file[offset] >> 4 in (0xA, 0xD):
-            name = rng.choice(["end", "sized array" if file[offset] >> 4 == 0xA else "sized dict"])
-            try:
-                length, _ = model.head(file, offset)
-            except model.Refused:
-                length = 0
-            return model.KINDS[name], 0 if name == "end" else length
         try:
-            found = model.object_at(file, 1, offset)
+            found = model.object_at(file, refs, offset)
         except model.Refused:
-            found = None
-        if found and found[0] == "scalar":
-            word, _, number = found[1].partition(" ")
-            if word == "int":
-                number = int(number)
-                name = "signed" if number < 0 or number < 1 << 63 and rng.random() < 0.5 else "unsigned"
-                return model.KINDS[name], number % (1 << 64)
-            if word in ("real", "date"):
-                name = "nan" if word == "real" and rng.random() < 0.3 else word
-                return model.KINDS[name], int(number, 16)
-            return model.KINDS[word], int(number or 0)
-        if found:
-            return model.KINDS[found[0]], 0
-    return rng.randrange(1, 16), rng.choice([0, 1, 3, rng.getrandbits(64)])
+            # what stands there, if it is a container that is refused
+            if file[offset] >> 4 in (0xA, 0xD) and rng.random() < 0.9:
+                try:
+                    found = ("array" if file[offset] >> 4 == 0xA else "dict", model.head(file, offset)[0])
+                except model.Refused:
+                    found = None
+    if not found:
+        return rng.randrange(1, 16), rng.choice([0, 1, 3, rng.getrandbits(64)])
+    if found[0] in ("array", "dict"):
+        name = rng.choice(["end", f"sized {found[0]}"])
+        return model.KINDS[name], 0 if name == "end" else found[1]
+    if found[0] == "scalar":
+        word, _, number = found[1].partition(" ")
+        if word == "int":
+            number = int(number)
+            name = "signed" if number < 0 or number < 1 << 63 and rng.random() < 0.5 else "unsigned"
+            return model.KINDS[name], number % (1 << 64)
+        if word in ("real", "date"):
+            name = "nan" if word == "real" and rng.random() < 0.3 else word
+            return model.KINDS[name], int(number, 16)
+        return model.KINDS[word], int(number or 0)
+    return model.KINDS[found[0]], 0
+
+
+def listed(rng, file):
+    """Numbers and offsets that the file's table has, and the size of its references; a few made up where there is no table."""
+    try:
+        offsets, refs, count, table, _ = model.trailer(file)
+    except model.Refused:
+        return [(rng.randrange(4), 8 + rng.randrange(8))], 1
+    numbers = range(count) if count <= 300 else rng.sample(range(count), 300)
+    return [(n, model.number_at(file, table + n * offsets, offsets)) for n in numbers] or [(0, 8)], refs
 
 
 def record_input(rng):
-    """A file, and a record that it gives, or nearly: another value, another kind, another offset, or another file."""
+    """A file, and a record that it gives, or nearly: another value, kind, number or offset, an entry moved, or another file."""
     file = drawn_file(rng)
-    places = collections.defaultdict(list)
-    for at, byte in enumerate(file[: max(len(file) - 32, 0)]):
-        places[byte if byte < 0x40 else byte & 0xF0].append(at)
-    marked = [places[marker] for marker in MARKERS if marker in places]
-    offset = rng.choice(rng.choice(marked)) if marked and rng.random() < 0.85 else near(rng, len(file) - 32 if len(file) > 32 else 8, rng.choice([8, 32, 64]))
-    kind, value = record_there(rng, file, offset)
+    entries, refs = listed(rng, file)
+    by_marker = collections.defaultdict(list)
+    for number, offset in entries:
+        byte = file[offset] if offset < len(file) else 0
+        by_marker[byte if byte < 0x40 else byte & 0xF0].append((number, offset))
+    number, offset = rng.choice(by_marker[rng.choice(sorted(by_marker))])
+    kind, value = record_there(rng, file, refs, offset)
     pick = rng.random()
-    if pick < 0.15:
+    if pick < 0.12:
         value = near(rng, value, 64)
-    elif pick < 0.3:
+    elif pick < 0.22:
         kind = rng.randrange(1, 16)
-    elif pick < 0.4:
-        offset = near(rng, offset, 32)
-    elif pick < 0.6:
+    elif pick < 0.32:
+        offset = near(rng, offset, rng.choice([8, 32, 64]))
+    elif pick < 0.42:
+        number = near(rng, number, rng.choice([4, 32]))
+    elif pick < 0.5:
+        number = rng.choice(entries)[0]
+    elif pick < 0.58:
+        offset = rng.choice(entries)[1]
+    elif pick < 0.75:
         file = other_file(rng, file)
-    return file, rng.choice([0, 1, 2, 3, 4, 5, 6, 8, 12, 40, 300]), kind, value, offset
+    return file, rng.choice([0, 1, 2, 3, 4, 5, 6, 8, 12, 40, 300]), kind, value, number, offset
 
 
 def shown(state):
     frames = list(state[8])
     while frames and frames[-1] == model.NO_FRAME:
         frames.pop()
-    return " ".join(map(str, state[:8])) + " " + "".join(f"{o}:{p}:{l}," for o, p, l in frames)
+    return " ".join(map(str, state[:8])) + " " + "".join(":".join(map(str, frame)) + "," for frame in frames)
+
+
+def crossing():
+    """The smallest container that crosses T: an array of 2^63 - 1 at 8. Reading refuses it with 6, so neither its start nor an end is given."""
+    array = b"\xaf\x13" + model.MOST_SIGNED.to_bytes(8, "big")
+    words = b"".join(each.to_bytes(8, "big") for each in (1, 0, 18))
+    file = b"bplist00" + array + b"\x08" + bytes(6) + b"\x01\x01" + words
+    return [record_case(file, 4, model.KINDS["sized array"], model.MOST_SIGNED, 0, 8), record_case(file, 4, model.KINDS["end"], 0, 0, 8)]
+
+
+def state_case(file, state):
+    line, after = model.step(file, state)
+    said = f"{line}: {model.clause(model.call, file, state)}" if line.startswith("refused 17") else line
+    return f"S {file.hex()} {shown(state)}", [line, f"state {shown(after)}"], said
+
+
+def record_case(file, length, kind, value, number, offset):
+    line, left, part = model.request(file, b"\xaa" * length, kind, value, number, offset)
+    said = f"request {NAMES[kind]}: {line}"
+    if line.startswith("refused 17"):
+        said = f"request: {model.clause(model.given, file, kind, value, number, offset)}: {line}"
+    return f"R {file.hex()} {length} {kind} {value} {number} {offset}", [line, model.with_bytes("data", left), model.with_bytes("data", part)], said
 
 
 def cases(seed, count):
@@ -157,32 +216,29 @@ def cases(seed, count):
     rng = random.Random(f"forged {seed}")
     for at in range(count):
         if at % 4 < 3:
-            file, state = state_input(rng)
-            line, after = model.step(file, state)
-            yield f"S {file.hex()} {shown(state)}", [line, f"state {shown(after)}"], line
+            yield state_case(*state_input(rng))
         else:
-            file, length, kind, value, offset = record_input(rng)
-            scratch = b"\xaa" * length
-            line, left, part = model.request(file, scratch, kind, value, offset)
-            yield f"R {file.hex()} {length} {kind} {value} {offset}", [line, model.with_bytes("data", left), model.with_bytes("data", part)], f"request {NAMES[kind]}: {line}"
+            yield record_case(*record_input(rng))
 
 
 def sort_of(line):
     if line.startswith("request"):
-        name, _, answer = line.partition(": ")
+        name, _, answer = line.rpartition(": ")
         words = answer.split()
         return f"{name} {words[0]} {words[1]}" if words[0] == "refused" else f"{name} length"
+    if line.startswith("refused 17"):
+        return "refused 17: " + line.partition(": ")[2]
     words = line.split()
-    return f"refused {words[1]}" if words[0] == "refused" else words[2] if words[0] == "at" else words[0]
+    return f"refused {words[1]}" if words[0] == "refused" else words[3] if words[0] == "at" else words[0]
 
 
 def sample(stdin, stdout):
-    """300 lines, as even over the sorts of answers as can be. With 512 open, 15, a line is long."""
+    """300 lines: the crossing ones, then as even over the sorts of answers as can be. With 512 open, 15, a line is long."""
     by_sort = collections.defaultdict(list)
     for line, answer, said in cases("sample", 20000):
         if len(line) < (12000 if sort_of(said) == "refused 15" else 1500):
             by_sort[sort_of(said)].append((line, answer))
-    chosen = []
+    chosen = [(line, answer) for line, answer, _ in crossing()]
     while len(chosen) < 300:
         for sort in sorted(by_sort):
             if by_sort[sort] and len(chosen) < 300:
@@ -194,7 +250,7 @@ def sample(stdin, stdout):
 
 
 def compare(seed, count, program):
-    made = list(cases(seed, count))
+    made = crossing() + list(cases(seed, count))
     text = "".join(line + "\n" for line, _, _ in made)
     got = subprocess.run(program, input=text, capture_output=True, text=True).stdout.split("\n")
     at, differing, sorts = 0, [], collections.Counter()
@@ -207,6 +263,8 @@ def compare(seed, count, program):
     extra = len(got) - at - 1
     print(f"{len(made)} forged inputs, {len(differing)} differences" + (f", {extra} lines too many" if extra else ""))
     print("  " + ", ".join(f"{sort}: {number}" for sort, number in sorted(sorts.items())))
+    unmet = [clause for clause in model.CLAUSES if not any(clause in sort for sort in sorts)]
+    print("  clauses of 17 that were not met: " + ("; ".join(unmet) or "none"))
     for _, line, answer, ours in sorted(differing)[:3]:
         print(f"{line}\n  model {answer}\n  ours  {ours}")
     return 1 if differing or extra else 0

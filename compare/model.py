@@ -3,9 +3,9 @@
 Written from document 01 ("Reader rules", "Refusal numbers") and the project's decisions on what it leaves open. It shares
 nothing with the proved code. A state is a tuple:
 
-    (fresh, length, offsets, refs, count, table, place, held, frames)   frames: 512 triples (object, position, length)
+    (fresh, length, offsets, refs, count, table, place, held, frames)   frames: 512 of (object, position, length, offset)
 
-A record is a kind, a value and an offset. A signed integer's value is its 64 bits, a real's and a date's too.
+A record is a kind, a value, its object's number and offset. A signed integer's value is its 64 bits, a real's and a date's too.
 """
 import struct
 
@@ -13,13 +13,14 @@ import dates
 
 MAX_LENGTH = 2_147_483_648
 MAX_OPEN = 512
+MOST_SIGNED = (1 << 63) - 1
 SIZES = (1, 2, 3, 4, 8)
 # The tape's kinds, but that 4 is an integer by its 64 bits; and a NaN by any bits.
 KINDS = {
     "false": 1, "true": 2, "unsigned": 3, "signed": 4, "real": 5, "date": 6, "uid": 7, "data": 8, "text": 9,
     "array": 10, "sized array": 11, "dict": 12, "sized dict": 13, "end": 14, "nan": 15,
 }  # fmt: skip
-NO_FRAME = (0, 0, 0)
+NO_FRAME = (0, 0, 0, 0)
 FRESH = (1, 0, 0, 0, 0, 0, 0, 0, (NO_FRAME,) * MAX_OPEN)
 ENDED = (0,) + FRESH[1:]
 
@@ -35,8 +36,20 @@ class Added(Refused):
     """A refusal by a rule that document 02 adds."""
 
 
+# The clauses of 17, of a state and of a record, in their order. For counts alone.
+CLAUSES = [
+    "length, depth or sizes", "no entry of the innermost", "another offset than was kept", "no container there",
+    "another length, or a position behind the end", "a reference outside the file", "an entry outside the file",
+    "no trailer", "no such number", "another offset than is listed", "an offset in the trailer", "refused there", "another object",
+]  # fmt: skip
+
+
 class Wrong(Exception):
-    """The state or the record isn't one that this file gives: 17."""
+    """The state or the record isn't one that this file gives: 17. It says which clause is met."""
+
+    def __init__(self, clause, *more):
+        super().__init__(" ".join([clause, *more]))
+        assert clause in CLAUSES
 
 
 def number_at(file, at, width):
@@ -170,58 +183,60 @@ def trailer(file):
 
 
 def fetch(file, state, object_number):
-    """An object that a reference names: the answer (offset, line) and the state after it."""
+    """An object that a reference names: the answer (number, offset, line) and the state after it."""
     fresh, length, offsets, refs, count, table, place, held, frames = state
     if object_number >= count:
         raise Refused(7, place)
     offset = number_at(file, table + object_number * offsets, offsets)
     if offset is None:
-        raise Wrong
+        raise Wrong("an entry outside the file")
     if offset >= len(file) - 32:
         raise Refused(6, place)
     found = object_at(file, refs, offset)
     frames = list(frames)
     if held:
         inner = frames[held - 1]
-        frames[held - 1] = (inner[0], inner[1] + 1, inner[2])
+        frames[held - 1] = (inner[0], inner[1] + 1) + inner[2:]
     if found[0] in ("array", "dict"):
         if any(frame[0] == object_number for frame in frames[:held]):
             raise Refused(14, offset)
         if held >= MAX_OPEN:
             raise Refused(15, offset)
-        frames[held] = (object_number, 0, found[1])
-        return (offset, f"{found[0]} {found[1]}"), state[:6] + (offset, held + 1, tuple(frames))
+        frames[held] = (object_number, 0, found[1], offset)
+        return (object_number, offset, f"{found[0]} {found[1]}"), state[:6] + (offset, held + 1, tuple(frames))
     line = found[1] if found[0] == "scalar" else with_bytes("data" if found[0] == "data" else "str", found[1])
-    return (offset, line), (state[:6] + (offset, held, tuple(frames)) if held else ENDED)
+    return (object_number, offset, line), (state[:6] + (offset, held, tuple(frames)) if held else ENDED)
 
 
 def go_on(file, state):
     """A call with an open container: what is due in the innermost one."""
     fresh, length, offsets, refs, count, table, place, held, frames = state
     if length != len(file) or held > MAX_OPEN or offsets not in SIZES or refs not in SIZES:
-        raise Wrong
-    number, position, claimed = frames[held - 1]
-    if number >= count:
-        raise Wrong
-    offset = number_at(file, table + number * offsets, offsets)
-    if offset is None or offset >= len(file) - 32 or file[offset] >> 4 not in (0xA, 0xD):
-        raise Wrong
+        raise Wrong("length, depth or sizes")
+    number, position, claimed, kept = frames[held - 1]
+    offset = number_at(file, table + number * offsets, offsets) if number < count else None
+    if offset is None:
+        raise Wrong("no entry of the innermost")
+    if offset != kept:
+        raise Wrong("another offset than was kept")
+    if offset >= len(file) - 32 or file[offset] >> 4 not in (0xA, 0xD):
+        raise Wrong("no container there")
     try:
         found, start = head(file, offset)
     except Refused:
-        raise Wrong
+        raise Wrong("no container there")
     references = found if file[offset] >> 4 == 0xA else 2 * found
     if found != claimed or position > references:
-        raise Wrong
+        raise Wrong("another length, or a position behind the end")
     if position == references:
         if held == 1:
-            return (offset, "close"), ENDED
+            return (number, offset, "close"), ENDED
         frames = frames[: held - 1] + (NO_FRAME,) + frames[held:]
-        return (offset, "close"), state[:7] + (held - 1, frames)
+        return (number, offset, "close"), state[:7] + (held - 1, frames)
     at = position if references == found else position // 2 + position % 2 * found
     reference = number_at(file, start + at * refs, refs)
     if reference is None:
-        raise Wrong
+        raise Wrong("a reference outside the file")
     return fetch(file, state, reference)
 
 
@@ -232,7 +247,7 @@ def listed(line):
 
 
 def call(file, state):
-    """What one call gives where it isn't refused: (offset, line), and the state after it."""
+    """What one call gives where it isn't refused: (number, offset, line), and the state after it."""
     if len(file) > MAX_LENGTH:
         raise Refused(1, 0, keeps=True)
     if not state[0]:
@@ -248,8 +263,8 @@ def step(file, state):
     if not fresh and not held:
         return "end", state
     try:
-        (offset, line), after = call(file, state)
-        return f"at {offset} {listed(line)}", after
+        (number, offset, line), after = call(file, state)
+        return f"at {number} {offset} {listed(line)}", after
     except Refused as refusal:
         return f"refused {refusal.number} at {refusal.place}", state if refusal.keeps else ENDED
     except Wrong:
@@ -284,44 +299,60 @@ def said(kind, value):
     return f"date {value:016x}" if kind == KINDS["date"] else f"uid {value}"
 
 
-def gives(file, kind, value, offset):
-    """Whether a file gives a record without bytes: reading at its offset says the same; a container of its kind and length
-    stands there for a start, any container for an end. A container's room is not measured, as it isn't for an open one."""
-    if kind in (KINDS["array"], KINDS["dict"]):
-        return False
-    if kind in (KINDS["sized array"], KINDS["sized dict"], KINDS["end"]):
-        high = file[offset] >> 4
-        if high not in (0xA, 0xD):
-            return False
-        try:
-            length, _ = head(file, offset)
-        except Refused:
-            return False
-        return kind == KINDS["end"] or (high == 0xA) == (kind == KINDS["sized array"]) and length == value
+def given(file, kind, value, number, offset):
+    """What reading gives for a record, which must be that record: what `object_at` finds."""
     try:
-        return object_at(file, 1, offset) == ("scalar", said(kind, value))
+        offsets, refs, count, table, _ = trailer(file)
     except Refused:
-        return False
+        raise Wrong("no trailer")
+    if number >= count:
+        raise Wrong("no such number")
+    if number_at(file, table + number * offsets, offsets) != offset:
+        raise Wrong("another offset than is listed")
+    if offset >= len(file) - 32:
+        raise Wrong("an offset in the trailer")
+    try:
+        found = object_at(file, refs, offset)
+    except Refused as refusal:
+        raise Wrong("refused there", f"with {refusal.number}")
+    if kind in (KINDS["data"], KINDS["text"]):
+        same = found[0] == ("data" if kind == KINDS["data"] else "text")
+    elif kind == KINDS["end"]:
+        same = found[0] in ("array", "dict")
+    elif kind in (KINDS["sized array"], KINDS["sized dict"]):
+        same = found[:2] == ("array" if kind == KINDS["sized array"] else "dict", value)
+    else:
+        same = kind not in (KINDS["array"], KINDS["dict"]) and found == ("scalar", said(kind, value))
+    if not same:
+        raise Wrong("another object")
+    return found
 
 
-def request(file, scratch, kind, value, offset):
+def request(file, scratch, kind, value, number, offset):
     """The two calls of a text request: (the first's line, the scratch afterwards, the second's part)."""
     refused = lambda number, place: (f"refused {number} at {place}", scratch, b"")
     if len(file) > MAX_LENGTH:
         return refused(1, 0)
-    if offset >= len(file) - 32:
+    try:
+        found = given(file, kind, value, number, offset)
+    except Wrong:
         return refused(17, 0)
     if kind not in (KINDS["data"], KINDS["text"]):
-        return ("length 0", scratch, b"") if gives(file, kind, value, offset) else refused(17, 0)
-    try:
-        found = object_at(file, 1, offset)
-    except Refused:
-        return refused(17, 0)
-    if found[0] != ("data" if kind == KINDS["data"] else "text"):
-        return refused(17, 0)
+        return "length 0", scratch, b""
     if found[0] == "data" or not found[2]:
         return f"length {len(found[1])}", scratch, found[1]
     text = found[1]
     if len(scratch) < len(text):
         return refused(16, offset)
     return f"length {len(text)}", text + scratch[len(text) :], text
+
+
+def clause(judge, *words):
+    """Which clause of 17 is met, for counts: `judge` is `call` or `given`."""
+    try:
+        judge(*words)
+    except Wrong as wrong:
+        return str(wrong)
+    except Refused:
+        pass
+    return "none"

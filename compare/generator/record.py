@@ -125,7 +125,7 @@ def model_block(file):
     lines, state = ["events"], model.FRESH
     while not lines[-1].startswith(("end", "refused")):
         line, state = model.step(file, state)
-        lines.append(line.split(" ", 2)[2] if line.startswith("at ") else line)
+        lines.append(line.split(" ", 3)[3] if line.startswith("at ") else line)
     for _ in range(2):
         line, state = model.step(file, state)
         lines.append(f"then {line}")

@@ -97,8 +97,10 @@ use Rattle.layout.proofs.layout.number_at.Kinds as number-at-kinds
 use Rattle.layout.proofs.layout.number_at.Reads as number-at-reads
 use Rattle.layout.proofs.layout.due_at.Kinds as due-at-kinds
 use Rattle.layout.proofs.layout.due_at.Reads as due-at-reads
-use Rattle.layout.proofs.layout.stands_at.Kinds as stands-at-kinds
-use Rattle.layout.proofs.layout.stands_at.Reads as stands-at-reads
+use Rattle.layout.proofs.layout.is_listed.Kinds as is-listed-kinds
+use Rattle.layout.proofs.layout.is_listed.Reads as is-listed-reads
+use Rattle.layout.proofs.layout.stands_in.Kinds as stands-in-kinds
+use Rattle.layout.proofs.layout.stands_in.Reads as stands-in-reads
 use Rattle.layout.proofs.layout.due_in.Kinds as due-in-kinds
 use Rattle.layout.proofs.layout.due_in.Reads as due-in-reads
 use Rattle.layout.proofs.lookup.look_up.Kinds as look-up-kinds
@@ -245,8 +247,11 @@ number-at-one κs a x y e f p q = (p ∙ sym q, refl)
 due-at-one : One 1 due-at-kinds.ps due-at-kinds.r due-at-reads.Post (Unit {0}) (λ κs e. tt)
 due-at-one κs a x y e f p q = (dueSaid-one x y (p ∙ sym q), refl)
 
-stands-at-one : One 1 stands-at-kinds.ps stands-at-kinds.r stands-at-reads.Post (Unit {0}) (λ κs e. tt)
-stands-at-one κs a x y e f p q = (p ∙ sym q, refl)
+is-listed-one : One 1 is-listed-kinds.ps is-listed-kinds.r is-listed-reads.Post (Unit {0}) (λ κs e. tt)
+is-listed-one κs a x y e f p q = (p ∙ sym q, refl)
+
+stands-in-one : One 1 stands-in-kinds.ps stands-in-kinds.r stands-in-reads.Post (Unit {0}) (λ κs e. tt)
+stands-in-one κs a x y e f p q = (p ∙ sym q, refl)
 
 due-in-one : One 1 due-in-kinds.ps due-in-kinds.r due-in-reads.Post (Unit {0}) (λ κs e. tt)
 due-in-one κs a x y e f p q = (dueSaid-one x y (p ∙ sym q), refl)

@@ -1,5 +1,5 @@
--- The text request of what was read: of a record that a call of `next` on a file returned, whatever the reader, `text_length` and `text_part` on that file
--- hand out the bytes. 1 and 17 never come; 16 comes exactly where the scratch is too short.
+-- The text request of what was read: of a record that a call of `next` on a file returned, in a state that a fresh reader comes to by calls on that file,
+-- `text_length` and `text_part` on that file hand out the bytes. 1 and 17 never come; 16 comes exactly where the scratch is too short.
 use mathlib.Core.Bool.{Bool, true, false}
 use mathlib.Core.List.{List, []}
 use mathlib.Core.Path.{_≡_, refl, sym, ap, _∙_}
@@ -10,7 +10,7 @@ use lib.Dec.{leb}
 use lib.ListN.{length}
 use Rattle.number.specs.PartLaws.{length-part}
 use Rattle.event.specs.Meaning.{meaningOf}
-use Rattle.layout.specs.Bytes.{Asked, inFile, inUtf16, noBytes, denied}
+use Rattle.layout.specs.Bytes.{Asked, inFile, inUtf16, noBytes, denied, eventAsked}
 use Rattle.reader.proofs.Calls.{Returned, returned}
 use Rattle.reader.proofs.Inside.{AskedIn, asked-in}
 use Rattle.reader.proofs.Requests.{LengthAsked, PartAsked, length-asked, part-asked}
@@ -25,8 +25,9 @@ use Rattle.reader.specs.declared.answer.Stepped.{Stepped}
 use Rattle.reader.specs.declared.request.TextLength.{TextLength}
 use Rattle.reader.specs.declared.state.Reader.{Reader}
 use Rattle.claims.specs.Answers.{handed-given}
+use Rattle.claims.specs.Fair.{fair-reached}
 use Rattle.claims.specs.Look.{Given}
-use Rattle.transcribe.specs.HandedLaws.{next-short}
+use Rattle.claims.specs.Open.{Reached}
 
 -- what is given and lies in the file stands there whole
 whole : (file : List ℕ) (a : Asked) → AskedIn file a → Given a → Present file a
@@ -35,7 +36,7 @@ whole file (inUtf16 start n) i g = tt
 whole file noBytes i g = tt
 whole file (denied number values) i g = absurd g
 
-module _ (file : List ℕ) (r : Reader) (s : Stepped) (call : Returned file r s) (q : Record) (handed : said (s .answer) ≡ event q) where
+module _ (file : List ℕ) (r : Reader) (reach : Reached file r) (s : Stepped) (call : Returned file r s) (q : Record) (handed : said (s .answer) ≡ event q) where
   answers : nextOf file r .answer ≡ event q
   unfolding stepSaid
   answers = ap (λ (x : Step). x .answer) (sym (returned file r s call)) ∙ handed
@@ -51,12 +52,14 @@ module _ (file : List ℕ) (r : Reader) (s : Stepped) (call : Returned file r s)
   needed = scratchAsked file asked
 
   stands : Present file asked
-  stands = whole file asked (asked-in file q) (handed-given file r q answers)
+  stands = whole file asked (asked-in file q) (handed-given file r reach q answers)
 
   -- with its bytes the record means what the answer means
   pub returns-means : told file (said (s .answer)) ≡ means (meaningOf (q .event) content) (q .offset)
-  unfolding told meaningAt askedOf
-  returns-means = rw (handed, told, next-short file r q answers)
+  unfolding told meaningAt
+  returns-means =
+      let own : asked ≡ eventAsked file (q .event) (q .offset) = rw answers at (fair-reached file r reach) in
+      rw (handed, told, own)
 
   module _ (scratch : List ℕ) (x : TextLength) (left : List ℕ) (first : LengthAsked file scratch q x left) where
     -- where the scratch is long enough the length is answered,

@@ -14,10 +14,11 @@ use Rattle.layout.specs.Trailer.{eightAt}
 use Rattle.reader.proofs.Calls.{Fresh, Calls, readersOf, fresh-is, reader-at, return-at}
 use Rattle.reader.specs.Calls.{after, runs, answerOf}
 use Rattle.reader.specs.CallsLaws.{runs-more}
-use Rattle.reader.specs.Machine.{Step, eventAt, ended, refused}
+use Rattle.reader.specs.Machine.{Step, Origin, event, eventAt, ended, refused}
 use Rattle.reader.specs.Next.{nextOf}
 use Rattle.reader.specs.Said.{said, stepSaid}
 use Rattle.reader.specs.State.{maxOpen}
+use Rattle.reader.specs.declared.answer.Record.{Record}
 use Rattle.reader.specs.declared.answer.Stepped.{Stepped}
 use Rattle.reader.specs.declared.state.Reader.{Reader}
 use Rattle.claims.specs.Answers.{never-wrong-file, never-deep}
@@ -25,6 +26,9 @@ use Rattle.claims.specs.Dates.{answer-date}
 use Rattle.claims.specs.Depth.{Nested, nested}
 use Rattle.claims.specs.Ends.{Final, ends-by}
 use Rattle.claims.specs.Last.{refusal-last}
+use Rattle.claims.specs.Open.{Reached}
+use Rattle.claims.specs.Origin.{Comes, comes-from}
+use Rattle.claims.specs.Reached.{reached}
 use Rattle.claims.specs.Recursion.{Recursive, recursion-exactly}
 
 there : (ss : List Stepped) (n : ℕ) → n < length ss → (s : Stepped) × (getElem? ss n ≡ some s)
@@ -38,6 +42,10 @@ module _ (file : List ℕ) (first : Reader) (made : Fresh first) (ss : List Step
   pub returns-reader : (n : ℕ) (r : Reader) → getElem? (readersOf first ss) n ≡ some r → r ≡ runs file n
   unfolding runs
   returns-reader n r at = reader-at file first ss calls n r at ∙ ap (after n file) (fresh-is first made)
+
+  -- which is one that a fresh reader comes to by calls on this file,
+  pub returns-reached : (n : ℕ) (r : Reader) → getElem? (readersOf first ss) n ≡ some r → Reached file r
+  returns-reached n r at = rw (returns-reader n r at) (reached file n)
 
   -- and returns the next state and the answer of the definition
   pub returns : (n : ℕ) (s : Stepped) → getElem? ss n ≡ some s → (s .reader ≡ runs file (suc n)) × (said (s .answer) ≡ answerOf file n)
@@ -77,9 +85,13 @@ module _ (file : List ℕ) (first : Reader) (made : Fresh first) (ss : List Step
     pub returns-wrong-file : (values : List ℕ) (place : ℕ) → said (s .answer) ≡ refused 17 values place → ⊥
     returns-wrong-file values place e = never-wrong-file file n values place (sym answers ∙ e)
 
+    -- a record that is handed out holds the number that was due in the reader of the call, and that number's entry of the table
+    pub returns-origin : (r : Reader) → getElem? (readersOf first ss) n ≡ some r → (q : Record) → said (s .answer) ≡ event q → Comes file r q
+    returns-origin r given q e = rw (returns-reader n r given) (comes-from file n q (sym answers ∙ e))
+
     -- a date that is handed out is one
-    pub returns-date : (b offset : ℕ) → said (s .answer) ≡ eventAt (Date b) offset → isDate b ≡ true
-    returns-date b offset e = answer-date file n b offset (sym answers ∙ e)
+    pub returns-date : (b : ℕ) (o : Origin) → said (s .answer) ≡ eventAt (Date b) o → isDate b ≡ true
+    returns-date b o e = answer-date file n b o (sym answers ∙ e)
 
     -- after a refusal every call answers Ended, or all calls, those before too, answer that refusal
     pub returns-refusal : (number : ℕ) (values : List ℕ) (place : ℕ) → said (s .answer) ≡ refused number values place

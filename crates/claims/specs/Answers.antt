@@ -22,12 +22,13 @@ use Rattle.reader.specs.Request.{askedOf}
 use Rattle.reader.specs.State.{maxOpen, innermost}
 use Rattle.reader.specs.declared.answer.Record.{Record}
 use Rattle.reader.specs.declared.state.Reader.{Reader}
-use Rattle.transcribe.specs.HandedLaws.{Given as Stands, next-handed, next-short}
+use Rattle.transcribe.specs.HandedLaws.{Given as Stands, next-handed}
 use Rattle.claims.specs.Call.{inner}
 use Rattle.claims.specs.Due.{Pending, end, reference}
-use Rattle.claims.specs.Fair.{Refusing, fair}
+use Rattle.claims.specs.Fair.{Refusing, fair, fair-reached}
 use Rattle.claims.specs.Look.{Given}
-use Rattle.claims.specs.Open.{opened-pending, Open}
+use Rattle.claims.specs.Open.{opened-pending, Open, Reached}
+use Rattle.claims.specs.Reached.{reached}
 
 -- a refusal of such a call has a step's number
 pub known-number : (file : List ℕ) (n number : ℕ) (values : List ℕ) (place : ℕ) → answerOf file n ≡ refused number values place → among stepRefusals number ≡ true
@@ -41,23 +42,23 @@ never-wrong-file file n values place e = among-not stepRefusals 17 17 (known-num
 pub never-no-room : (file : List ℕ) (n : ℕ) (values : List ℕ) (place : ℕ) → answerOf file n ≡ refused 16 values place → ⊥
 never-no-room file n values place e = among-not stepRefusals 16 16 (known-number file n 16 values place e) not-step-16 refl
 
--- a record that any call on a file hands out, of any state, is given by that file
+-- a record that a call of such a reader hands out is given by that file
 given-is : (file : List ℕ) (e : Event) (a : Asked) → Stands file e a → Given a
 given-is file e (inFile start n) g = tt
 given-is file e (inUtf16 start n) g = tt
 given-is file e noBytes g = tt
 given-is file e (denied number values) g = g
 
-pub handed-given : (file : List ℕ) (s : Reader) (r : Record) → nextOf file s .answer ≡ event r → Given (askedOf file r)
-unfolding askedOf
-handed-given file s r e =
+pub handed-given : (file : List ℕ) (s : Reader) → Reached file s → (r : Record) → nextOf file s .answer ≡ event r → Given (askedOf file r)
+handed-given file s reach r e =
     let g : Stands file (r .event) (eventAsked file (r .event) (r .offset)) = rw e at (next-handed file s) in
-    rw (next-short file s r e) (given-is file (r .event) (eventAsked file (r .event) (r .offset)) g)
+    let own : askedOf file r ≡ eventAsked file (r .event) (r .offset) = rw e at (fair-reached file s reach) in
+    rw own (given-is file (r .event) (eventAsked file (r .event) (r .offset)) g)
 
--- and so 17 never comes for a record that such a call handed out, nor 1: whatever the record is, it is given
+-- and so 17 never comes for it, nor 1: whatever the record is, it is given (docs/FORMAT.md, R31)
 pub never-wrong-record : (file : List ℕ) (n : ℕ) (r : Record) → answerOf file n ≡ event r → Given (askedOf file r)
 unfolding answerOf
-never-wrong-record file n r e = handed-given file (runs file n) r e
+never-wrong-record file n r e = handed-given file (runs file n) (reached file n) r e
 
 pub never-denied : (file : List ℕ) (n : ℕ) (r : Record) → answerOf file n ≡ event r → (number : ℕ) (values : List ℕ) → askedOf file r ≡ denied number values → ⊥
 never-denied file n r e number values d = rw d at (never-wrong-record file n r e)
@@ -74,7 +75,7 @@ module _ (file : List ℕ) (r : Reader) (o : Open file r) where
   pub due-never-wrong : dueOf file (o .layout) (innermost r) ≡ Wrong → ⊥
   due-never-wrong e = go (opened-pending (inner file r o))
     where
-      go : Pending file (o .layout) (innermost r) (refsOf (inner file r o .shape) (innermost r .length)) (inner file r o .offset) → ⊥
+      go : Pending file (o .layout) (innermost r) (refsOf (inner file r o .shape) (innermost r .length)) (innermost r .offset) → ⊥
       go (end d) = let z : _≡_ {A = ℕ} 0 1 = cc in omega arith
       go (reference h m d) = let z : _≡_ {A = ℕ} 0 1 = cc in omega arith
 

@@ -20,28 +20,27 @@ use Rattle.layout.specs.Looked.{Looked, barred, missing, faulty, scalar, contai
 use Rattle.layout.specs.Trailer.{Trailer, keeps, ends, lays, trailerOf, trailerIn}
 use Rattle.layout.specs.declared.layout.Due.the-variants.{Member}
 use Rattle.layout.specs.declared.layout.Layout.{Layout}
-use Rattle.reader.specs.Machine.{eventAt, refused, step, refuse, enter, arrive, follow, stepOf}
+use Rattle.reader.specs.Machine.{origin, eventAt, refused, step, refuse, enter, arrive, follow, stepOf}
 use Rattle.reader.specs.Next.{laidOut, begin, withRefs, goOn, nextOf}
 use Rattle.reader.specs.NextLaws.{next-begin, next-on}
 use Rattle.reader.specs.State.{maxOpen, maxLength, freshReader, endedReader, openOf, innermost, memberOf, passed, entered, closed}
 use Rattle.reader.specs.declared.state.Reader.{Reader}
 use Rattle.claims.specs.Due.{Pending, end, reference}
-use Rattle.claims.specs.Look.{Asks, asks}
 use Rattle.claims.specs.Open.{Opened, opened-pending, Open}
 
 -- a call of a reader with an open container
 pub data Call (file : List ℕ) (l : Layout) (r : Reader) : Type 0 where
-  closing : (offset : ℕ) → nextOf file r ≡ step (closed r) (eventAt EndCollection offset) → Call file l r
+  closing : nextOf file r ≡ step (closed r) (eventAt EndCollection (origin (innermost r .object) (innermost r .offset))) → Call file l r
   refusing : (number : ℕ) (values : List ℕ) (place : ℕ) → among fileRefusals number ≡ true → nextOf file r ≡ refuse number values place → Call file l r
-  passing : (n : ℕ) → dueOf file l (innermost r) ≡ Member n → (e : Event) (offset : ℕ) → Asks file e offset
-      → nextOf file r ≡ step (passed r offset) (eventAt e offset) → Call file l r
+  passing : (n : ℕ) → dueOf file l (innermost r) ≡ Member n → (e : Event) (offset : ℕ) → lookOf file l n ≡ scalar e offset
+      → nextOf file r ≡ step (passed r offset) (eventAt e (origin n offset)) → Call file l r
   again : (n : ℕ) → dueOf file l (innermost r) ≡ Member n → memberOf (openOf r) n ≡ true
       → (offset : ℕ) → nextOf file r ≡ refuse 14 [] offset → Call file l r
   deep : (n : ℕ) → dueOf file l (innermost r) ≡ Member n → memberOf (openOf r) n ≡ false → n < l .count → maxOpen ≤ r .depth
       → (offset : ℕ) → nextOf file r ≡ refuse 15 [] offset → Call file l r
   entering : (n : ℕ) → dueOf file l (innermost r) ≡ Member n → memberOf (openOf r) n ≡ false → r .depth < maxOpen
       → (s : Shape) (k offset : ℕ) → lookOf file l n ≡ container s k offset
-      → nextOf file r ≡ step (entered r n k offset) (eventAt (startOf s k) offset) → Call file l r
+      → nextOf file r ≡ step (entered r n k offset) (eventAt (startOf s k) (origin n offset)) → Call file l r
 
 module _ (file : List ℕ) (r : Reader) (o : Open file r) where
   -- the sizes, the count and the table that are kept are the trailer's, so the call goes by what is due under its layout
@@ -71,24 +70,25 @@ module _ (file : List ℕ) (r : Reader) (o : Open file r) where
   arrive-call n d (barred number values) e k h = refusing number values (r .place) (file-refusal number k) h
   arrive-call n d missing e k h = absurd (never-missing file (o .layout) (o .laid) n e)
   arrive-call n d (faulty number values place) e k h = refusing number values place (file-refusal number k) h
-  arrive-call n d (scalar v offset) e k h = passing n d v offset (asks file offset v k) h
+  arrive-call n d (scalar v offset) e k h = passing n d v offset e h
   arrive-call n d (container s k offset) e st h = enter-call n d s k offset e (st .numbered) h
 
   pub call : Call file (o .layout) r
   unfolding follow sourceOf
   call = go (opened-pending inner)
     where
-      go : Pending file (o .layout) (innermost r) (refsOf (inner .shape) (innermost r .length)) (inner .offset) → Call file (o .layout) r
-      go (end e) = closing (inner .offset) (next-follow ∙ rw e)
+      go : Pending file (o .layout) (innermost r) (refsOf (inner .shape) (innermost r .length)) (innermost r .offset) → Call file (o .layout) r
+      go (end e) = closing (next-follow ∙ rw e)
       go (reference k n e) = arrive-call n e (lookOf file (o .layout) n) refl (look-right file (o .layout) n) (next-follow ∙ rw e)
 
 -- the first call
 pub data First (file : List ℕ) : Type 0 where
   keeping : (number : ℕ) (values : List ℕ) (place : ℕ) → among fileRefusals number ≡ true → nextOf file freshReader ≡ step freshReader (refused number values place) → First file
   refusing : (number : ℕ) (values : List ℕ) (place : ℕ) → among fileRefusals number ≡ true → nextOf file freshReader ≡ refuse number values place → First file
-  passing : length file ≤ maxLength → (e : Event) (offset : ℕ) → Asks file e offset → nextOf file freshReader ≡ step endedReader (eventAt e offset) → First file
+  passing : length file ≤ maxLength → (l : Layout) (root : ℕ) → trailerOf file ≡ lays l root → (e : Event) (offset : ℕ) → lookOf file l root ≡ scalar e offset
+      → nextOf file freshReader ≡ step endedReader (eventAt e (origin root offset)) → First file
   entering : length file ≤ maxLength → (l : Layout) (root : ℕ) → trailerOf file ≡ lays l root → (s : Shape) (k offset : ℕ) → lookOf file l root ≡ container s k offset
-      → nextOf file freshReader ≡ step (entered (laidOut file l) root k offset) (eventAt (startOf s k) offset) → First file
+      → nextOf file freshReader ≡ step (entered (laidOut file l) root k offset) (eventAt (startOf s k) (origin root offset)) → First file
 
 module _ (file : List ℕ) where
   first-arrive : length file ≤ maxLength → (l : Layout) (root : ℕ) → trailerOf file ≡ lays l root → Laid file l → (x : Looked) → lookOf file l root ≡ x → Looked-right file l root x
@@ -97,7 +97,7 @@ module _ (file : List ℕ) where
   first-arrive t l root s d (barred number values) e k h = refusing number values (laidOut file l .place) (file-refusal number k) h
   first-arrive t l root s d missing e k h = absurd (never-missing file l d root e)
   first-arrive t l root s d (faulty number values place) e k h = refusing number values place (file-refusal number k) h
-  first-arrive t l root s d (scalar v offset) e k h = passing t v offset (asks file offset v k) h
+  first-arrive t l root s d (scalar v offset) e k h = passing t l root s v offset e h
   first-arrive t l root s d (container shape k offset) e st h = entering t l root s shape k offset e h
 
   pub first : First file

@@ -9,7 +9,7 @@ use Rattle.event.specs.Date.{isDate}
 use Rattle.event.specs.declared.Event.the-variants.{Date}
 use Rattle.layout.specs.Bytes.{Asked, inFile, inUtf16, noBytes, denied, eventAsked, hasBytes}
 use Rattle.reader.specs.Calls.{runs, answerOf}
-use Rattle.reader.specs.Machine.{eventAt}
+use Rattle.reader.specs.Machine.{Origin, eventAt}
 use Rattle.reader.specs.Next.{nextOf}
 use Rattle.reader.specs.declared.state.Reader.{Reader}
 use Rattle.transcribe.specs.HandedLaws.{Given, next-handed}
@@ -21,12 +21,12 @@ given-date file b (inUtf16 start n) g = let z : _≡_ {A = ℕ} 0 1 = cc in absu
 given-date file b noBytes g = g
 given-date file b (denied number values) g = absurd g
 
-pub next-date : (file : List ℕ) (r : Reader) (b offset : ℕ) → nextOf file r .answer ≡ eventAt (Date b) offset → isDate b ≡ true
-next-date file r b offset e =
-    let g : Given file (Date b) (eventAsked file (Date b) offset) = rw e at (next-handed file r) in
-    given-date file b (eventAsked file (Date b) offset) g
+pub next-date : (file : List ℕ) (r : Reader) (b : ℕ) (o : Origin) → nextOf file r .answer ≡ eventAt (Date b) o → isDate b ≡ true
+next-date file r b o e =
+    let g : Given file (Date b) (eventAsked file (Date b) (o .offset)) = rw e at (next-handed file r) in
+    given-date file b (eventAsked file (Date b) (o .offset)) g
 
 -- so of the calls from a fresh reader on
-pub answer-date : (file : List ℕ) (n b offset : ℕ) → answerOf file n ≡ eventAt (Date b) offset → isDate b ≡ true
+pub answer-date : (file : List ℕ) (n b : ℕ) (o : Origin) → answerOf file n ≡ eventAt (Date b) o → isDate b ≡ true
 unfolding answerOf
-answer-date file n b offset e = next-date file (runs file n) b offset e
+answer-date file n b o e = next-date file (runs file n) b o e

@@ -13,7 +13,7 @@ use Rattle.number.specs.Part.{part}
 use Rattle.object.specs.declared.content.Extent.{Extent}
 use Rattle.layout.specs.FoundLaws.{made, refsOf}
 use Rattle.layout.specs.LookLaws.{Standing}
-use Rattle.layout.specs.Layout.{numberAt, placeIn, given, dueAt, inArray, inDictionary, dueIn, standsFrom, standsAt, dueOf}
+use Rattle.layout.specs.Layout.{numberAt, placeIn, given, dueAt, inArray, inDictionary, dueIn, keptFrom, standsIn, dueOf}
 use Rattle.layout.specs.Looked.{Shape, array, dictionary}
 use Rattle.layout.specs.declared.layout.Due.the-variants.{Close, Member}
 use Rattle.layout.specs.declared.layout.Layout.{Layout}
@@ -40,19 +40,19 @@ pub data Pending (file : List ℕ) (l : Layout) (f : Frame) (references offset :
   end : dueOf file l f ≡ Close offset → Pending file l f references offset
   reference : f .position < references → (n : ℕ) → dueOf file l f ≡ Member n → Pending file l f references offset
 
-module _ (file : List ℕ) (l : Layout) (f : Frame) (s : Shape) (offset : ℕ) (st : Standing file l (f .object) s (f .length) offset) where
+module _ (file : List ℕ) (l : Layout) (f : Frame) (s : Shape) (st : Standing file l (f .object) s (f .length) (f .offset)) where
   due-made : (t : Shape) (e : Extent) → e .count ≡ f .length
-      → dueIn file l f offset (made t e) ≡ dueAt file (l .refs) offset (e .start) (refsOf t (f .length)) (placeOf t (f .length) (f .position)) (f .position)
+      → dueIn file l f (f .offset) (made t e) ≡ dueAt file (l .refs) (f .offset) (e .start) (refsOf t (f .length)) (placeOf t (f .length) (f .position)) (f .position)
   unfolding dueIn made inArray inDictionary refsOf placeOf
   due-made array e h = rw (eq-eqb _ _ h)
   due-made dictionary e h = rw (eq-eqb _ _ h)
 
-  due-is : dueOf file l f ≡ dueAt file (l .refs) offset (st .lies .extent .start) (refsOf s (f .length)) (placeOf s (f .length) (f .position)) (f .position)
-  unfolding dueOf standsAt standsFrom
-  due-is = rw (lt-ltb _ _ (st .numbered), st .entry, st .lies .is) (due-made s (st .lies .extent) (st .lies .counts))
+  due-is : dueOf file l f ≡ dueAt file (l .refs) (f .offset) (st .lies .extent .start) (refsOf s (f .length)) (placeOf s (f .length) (f .position)) (f .position)
+  unfolding dueOf standsIn keptFrom
+  due-is = rw (lt-ltb _ _ (st .numbered), st .entry, eq-eqb (f .offset) (f .offset) refl, st .lies .is) (due-made s (st .lies .extent) (st .lies .counts))
 
   -- behind the last reference the end is due
-  pub due-close : f .position ≡ refsOf s (f .length) → dueOf file l f ≡ Close offset
+  pub due-close : f .position ≡ refsOf s (f .length) → dueOf file l f ≡ Close (f .offset)
   unfolding dueAt
   due-close e = due-is ∙ rw (eq-eqb _ _ e)
 
@@ -69,9 +69,9 @@ module _ (file : List ℕ) (l : Layout) (f : Frame) (s : Shape) (offset : ℕ) (
       (be (part file (start + p * w) w), due-is ∙ rw (ne-eqb (f .position) k (omega arith), lt-ltb (f .position) k h, le-leb (start + p * w + w) (length file) (omega arith)))
 
   -- so at a position that isn't past them one of the two is due
-  pub pending : f .position ≤ refsOf s (f .length) → Pending file l f (refsOf s (f .length)) offset
+  pub pending : f .position ≤ refsOf s (f .length) → Pending file l f (refsOf s (f .length)) (f .offset)
   pending h = go (eq-or-lt-of-le h)
     where
-      go : (f .position ≡ refsOf s (f .length)) ⊎ (f .position < refsOf s (f .length)) → Pending file l f (refsOf s (f .length)) offset
+      go : (f .position ≡ refsOf s (f .length)) ⊎ (f .position < refsOf s (f .length)) → Pending file l f (refsOf s (f .length)) (f .offset)
       go (inl e) = end (due-close e)
       go (inr k) = reference k (due-member k .0) (due-member k .1)

@@ -8,7 +8,7 @@ use native.Mathlib.Omega.{arith}
 use lib.ListN.{length, getElem?, length-map}
 use Rattle.layout.specs.FoundLaws.{refsOf}
 use Rattle.layout.specs.Frame.{atPosition}
-use Rattle.layout.specs.Layout.{given, dueOf, standsAt}
+use Rattle.layout.specs.Layout.{given, dueOf, standsIn}
 use Rattle.layout.specs.References.{lengthOf, numberIn, entriesOf, referencesOf}
 use Rattle.layout.specs.ReferencesLaws.{element-at, same-length, Dues, due-none, due-entry, dues}
 use Rattle.layout.specs.declared.frame.Frame.{Frame}
@@ -32,9 +32,9 @@ below (m ∷ ns) (suc p) n e = omega (arith, below ns p n e)
 -- a reference that lies outside the file isn't due
 due-outside : (file : List ℕ) (l : Layout) (f : Frame) → getElem? (entriesOf file l (f .object)) (f .position) ≡ some Outside → dueOf file l f ≡ Wrong
 unfolding given
-due-outside file l f e = go (same-length (lengthOf (standsAt file l (f .object) .container)) (f .length))
+due-outside file l f e = go (same-length (lengthOf (standsIn file l f .container)) (f .length))
   where
-    go : (lengthOf (standsAt file l (f .object) .container) ≡ some (f .length)) ⊎ (lengthOf (standsAt file l (f .object) .container) ≡ some (f .length) → ⊥) → dueOf file l f ≡ Wrong
+    go : (lengthOf (standsIn file l f .container) ≡ some (f .length)) ⊎ (lengthOf (standsIn file l f .container) ≡ some (f .length) → ⊥) → dueOf file l f ≡ Wrong
     go (inl h) = due-entry file l f h ∙ element-at _ (entriesOf file l (f .object)) (f .position) Outside e
     go (inr h) = due-none file l f h
 
@@ -49,13 +49,13 @@ module _ (file : List ℕ) (l : Layout) (f : Frame) where
   due-names n e = rw e at (dues file l f)
 
   module _ (t : Opened file l f) where
-    pub due-element : dueOf file l f ≡ elementDue (t .offset) (getElem? (referencesOf file l (f .object)) (f .position))
+    pub due-element : dueOf file l f ≡ elementDue (f .offset) (getElem? (referencesOf file l (f .object)) (f .position))
     unfolding elementDue
     due-element = go (opened-pending t)
       where
-        go : Pending file l f (refsOf (t .shape) (f .length)) (t .offset) → dueOf file l f ≡ elementDue (t .offset) (getElem? (referencesOf file l (f .object)) (f .position))
+        go : Pending file l f (refsOf (t .shape) (f .length)) (f .offset) → dueOf file l f ≡ elementDue (f .offset) (getElem? (referencesOf file l (f .object)) (f .position))
         go (end e) =
-            let d : Dues file l f (Close (t .offset)) = rw e at (dues file l f) in
+            let d : Dues file l f (Close (f .offset)) = rw e at (dues file l f) in
             rw (e, past (referencesOf file l (f .object)) (f .position) (d .1))
         go (reference k n e) = rw (e, due-names n e)
 
@@ -63,7 +63,7 @@ module _ (file : List ℕ) (l : Layout) (f : Frame) where
     pub references-many : length (referencesOf file l (f .object)) ≡ refsOf (t .shape) (f .length)
     references-many =
         let g : Frame = atPosition f (refsOf (t .shape) (f .length)) in
-        let d : Dues file l g (Close (t .offset)) = rw (due-close file l g (t .shape) (t .offset) (t .standing) refl) at (dues file l g) in
+        let d : Dues file l g (Close (f .offset)) = rw (due-close file l g (t .shape) (t .standing) refl) at (dues file l g) in
         sym (d .1)
 
     -- its position is not above their number
@@ -77,7 +77,7 @@ module _ (file : List ℕ) (l : Layout) (f : Frame) where
         let g : Frame = atPosition f p in
         let m = length-map (entriesOf file l (f .object)) numberIn in
         let h : p < refsOf (t .shape) (f .length) = omega (arith, below (entriesOf file l (f .object)) p Outside e, m, references-many) in
-        let d = due-member file l g (t .shape) (t .offset) (t .standing) h in
+        let d = due-member file l g (t .shape) (t .standing) h in
         let q : Wrong ≡ Member (d .0) = sym (due-outside file l g e) ∙ d .1 in
         let z : _≡_ {A = ℕ} 0 1 = cc in
         omega arith

@@ -19,7 +19,7 @@ use Rattle.layout.specs.declared.layout.Layout.{Layout}
 use Rattle.layout.specs.declared.frame.Frame.{Frame}
 use Rattle.reader.specs.Calls.{runs, answerOf}
 use Rattle.reader.specs.CallsLaws.{runs-more}
-use Rattle.reader.specs.Machine.{Said, event, eventAt, ended, refused, Step, step}
+use Rattle.reader.specs.Machine.{Said, Origin, event, eventAt, ended, refused, Step, step}
 use Rattle.reader.specs.Next.{laidOut, nextOf}
 use Rattle.reader.specs.NextLaws.{next-ended}
 use Rattle.reader.specs.State.{maxOpen, freshReader, endedReader, innermost, advanced, passed, entered, closed}
@@ -111,8 +111,8 @@ module _ (file : List ℕ) (r : Reader) (o : Open file r) where
   goes-to : (s : Reader) (a : Said) → nextOf file r ≡ step s a → Open file s → left file s < left file r → Goes file r
   goes-to s a e t h = less (rw e t) (rw e h)
 
-  closed-goes : (offset : ℕ) → nextOf file r ≡ step (closed r) (eventAt EndCollection offset) → Goes file r
-  closed-goes offset e = go (same-or-not (r .depth) 1)
+  closed-goes : (from : Origin) → nextOf file r ≡ step (closed r) (eventAt EndCollection from) → Goes file r
+  closed-goes from e = go (same-or-not (r .depth) 1)
     where
       go : (r .depth ≡ 1) ⊎ (r .depth ≡ 1 → ⊥) → Goes file r
       go (inl q) = last (rw e (closed-last file r o q))
@@ -132,7 +132,7 @@ module _ (file : List ℕ) (r : Reader) (o : Open file r) where
         (falls-onto file (o .layout) (o .root) (r .depth) (r .frames) (o .stack) maxOpen (o .stack .few) n (due-top file r o n due) below _ refl)
 
   goes : Call file (o .layout) r → Goes file r
-  goes (call.closing offset e) = closed-goes offset e
+  goes (call.closing e) = closed-goes _ e
   goes (call.refusing number values place h e) = final (rw e tt)
   goes (call.passing n d v offset a e) = goes-to (passed r offset) _ e (open-passed file r o n d offset) (passed-less n d offset)
   goes (call.again n d m offset e) = final (rw e tt)
@@ -181,7 +181,7 @@ ends-first : (file : List ℕ) → First file → EndsBy file ((length file + 2)
 unfolding runs answerOf
 ends-first file (call.keeping number values at h e) = record { calls = 0; soon = omega arith; ends = refused-final file freshReader _ number values at e }
 ends-first file (call.refusing number values at h e) = record { calls = 0; soon = omega arith; ends = refused-final file freshReader _ number values at e }
-ends-first file (call.passing short v offset a e) = later 1 _ (one-le-pow (maxOpen + 1) (length file + 2) (omega arith)) (ended-now file 1 (ap (λ (s : Step). s .state) e))
+ends-first file (call.passing short l root says v offset look e) = later 1 _ (one-le-pow (maxOpen + 1) (length file + 2) (omega arith)) (ended-now file 1 (ap (λ (s : Step). s .state) e))
 ends-first file (call.entering short l root says s k offset look e) =
     let r = entered (laidOut file l) root k offset in
     let q : runs file 1 ≡ r = ap (λ (s : Step). s .state) e in

@@ -11,13 +11,13 @@ use Rattle.event.specs.declared.Length.the-variants.{Given}
 use Rattle.layout.specs.References.{references}
 use Rattle.reader.specs.Calls.{runs, answerOf}
 use Rattle.reader.specs.Computed.{computed}
-use Rattle.reader.specs.Machine.{eventAt, ended, refused}
+use Rattle.reader.specs.Machine.{origin, eventAt, ended, refused}
 
 -- the object `A1 00` at 8, as object 0; its entry at 10; the trailer
 unfoldable pub itself : List ℕ
 itself = magic ++ (0xA1 ∷ 0x00 ∷ 0x08 ∷ 0 ∷ 0 ∷ 0 ∷ 0 ∷ 0 ∷ 0 ∷ 1 ∷ 1 ∷ []) ++ bytesOf 8 1 ++ bytesOf 8 0 ++ bytesOf 8 10
 
-pub answers : (answerOf itself 0 ≡ eventAt (StartArray (Given 1)) 8) × ((answerOf itself 1 ≡ refused 14 [] 8) × (answerOf itself 2 ≡ ended))
+pub answers : (answerOf itself 0 ≡ eventAt (StartArray (Given 1)) (origin 0 8)) × ((answerOf itself 1 ≡ refused 14 [] 8) × (answerOf itself 2 ≡ ended))
 unfolding computed itself runs answerOf
 answers = (refl, (refl, refl))
 

@@ -8,8 +8,8 @@ use Prim.Native.Nat.{ℕ, suc, _≤_, _<_}
 use native.Mathlib.Omega.{arith}
 use lib.ListN.{length}
 use Rattle.number.specs.Among.{among, among-not}
+use Rattle.layout.specs.Bytes.{eventAsked}
 use Rattle.layout.specs.Layout.{dueOf}
-use Rattle.layout.specs.Looked.{Shape, array, dictionary, startOf}
 use Rattle.layout.specs.Trailer.{lays, eightAt, trailerOf}
 use Rattle.layout.specs.declared.layout.Due.the-variants.{Member}
 use Rattle.layout.specs.declared.layout.Layout.{Layout}
@@ -18,14 +18,15 @@ use Rattle.reader.specs.CallsLaws.{runs-more}
 use Rattle.reader.specs.Machine.{Said, event, ended, refused}
 use Rattle.reader.specs.Next.{nextOf}
 use Rattle.reader.specs.NextLaws.{next-ended}
+use Rattle.reader.specs.Request.{askedOf}
 use Rattle.layout.specs.Refusals.{fileRefusals}
 use Rattle.reader.specs.Refusals.{stepRefusals, step-refusal, not-file-14, not-file-15}
 use Rattle.reader.specs.State.{maxOpen, maxLength, freshReader, endedReader, openOf, innermost}
 use Rattle.reader.specs.declared.state.Reader.{Reader}
+use Rattle.written_claims.specs.AskedLaws.{own-scalar, own-start, own-end}
 use Rattle.claims.specs.Call as call
-use Rattle.claims.specs.Call.{Call, First, first}
+use Rattle.claims.specs.Call.{Call, inner, First, first}
 use Rattle.claims.specs.Depth.{open-fewer, count-is}
-use Rattle.claims.specs.Look.{Asks}
 use Rattle.claims.specs.Members.{At, member-at}
 use Rattle.claims.specs.Open.{Open, Reached, fresh, over, within}
 use Rattle.claims.specs.Reached.{reached, not-open}
@@ -51,9 +52,9 @@ pub record Refusing (file : List ℕ) (r s : Reader) (number : ℕ) : Type 0 whe
   pub deep : number ≡ 15 → Full file r
   pub settled : (s ≡ endedReader) ⊎ ((r ≡ freshReader) × (s ≡ freshReader))
 
--- an event comes of a file that isn't too long, and the bytes of data or text are given
+-- of a record that is handed out the request is the object's own: where its bytes stand
 abbrev pub Fair : List ℕ → Reader → Reader → Said → Type 0
-Fair file r s (event e) = (length file ≤ maxLength) × Asks file (e .event) (e .offset)
+Fair file r s (event e) = askedOf file e ≡ eventAsked file (e .event) (e .offset)
 Fair file r s ended = Unit {0}
 Fair file r s (refused number values place) = Refusing file r s number
 
@@ -75,17 +76,12 @@ listed-15 : among stepRefusals 15 ≡ true
 unfolding stepRefusals among
 listed-15 = refl
 
-start-asks : (file : List ℕ) (s : Shape) (k offset : ℕ) → Asks file (startOf s k) offset
-unfolding startOf
-start-asks file array k offset = tt
-start-asks file dictionary k offset = tt
-
 module _ (file : List ℕ) where
   fair-open : (r : Reader) (o : Open file r) → Call file (o .layout) r → Fair file r (nextOf file r .state) (nextOf file r .answer)
   unfolding openOf
-  fair-open r o (call.closing offset e) = rw e (o .short, tt)
+  fair-open r o (call.closing e) = rw e (own-end file (o .layout) (o .root) (o .short) (o .says) _ _ _ _ (inner file r o .look))
   fair-open r o (call.refusing number values place h e) = rw e (other number h (inl refl))
-  fair-open r o (call.passing n d v offset a e) = rw e (o .short, a)
+  fair-open r o (call.passing n d v offset look e) = rw e (own-scalar file (o .layout) (o .root) (o .short) (o .says) n v offset look)
   fair-open r o (call.again n d m offset e) =
       rw e
       (record {
@@ -102,15 +98,15 @@ module _ (file : List ℕ) where
         deep = λ q. record { depth = k; more = omega (arith, open-fewer file r o n h (not-open file r o n d m), count-is file r o) };
         settled = inl refl;
       })
-  fair-open r o (call.entering n d m few s k offset look e) = rw e (o .short, start-asks file s k offset)
+  fair-open r o (call.entering n d m few s k offset look e) = rw e (own-start file (o .layout) (o .root) (o .short) (o .says) n s k offset look)
 
   fair-first : First file → Fair file freshReader (nextOf file freshReader .state) (nextOf file freshReader .answer)
   fair-first (call.keeping number values place h e) = rw e (other number h (inr (refl, refl)))
   fair-first (call.refusing number values place h e) = rw e (other number h (inl refl))
-  fair-first (call.passing short v offset a e) = rw e (short, a)
-  fair-first (call.entering short l root says s k offset look e) = rw e (short, start-asks file s k offset)
+  fair-first (call.passing short l root says v offset look e) = rw e (own-scalar file l root short says root v offset look)
+  fair-first (call.entering short l root says s k offset look e) = rw e (own-start file l root short says root s k offset look)
 
-  fair-reached : (r : Reader) → Reached file r → Fair file r (nextOf file r .state) (nextOf file r .answer)
+  pub fair-reached : (r : Reader) → Reached file r → Fair file r (nextOf file r .state) (nextOf file r .answer)
   fair-reached r (fresh e) = rw e (fair-first (first file))
   fair-reached r (over e) = rw (e, next-ended file endedReader refl refl) tt
   fair-reached r (within o) = fair-open r o (call.call file r o)

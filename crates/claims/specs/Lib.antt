@@ -13,6 +13,7 @@ pub mod Last
 pub mod Look
 pub mod Members
 pub mod Open
+pub mod Origin
 pub mod Pigeon
 pub mod Reached
 pub mod Recursion

@@ -26,18 +26,17 @@ frameAt frames i = getD frames i noFrame
 unfoldable pub before : Frame → Frame
 before f = atPosition f (f .position - 1)
 
--- An open container: looking its object up gives a container of its length. So its object is below the count, its entry gives the offset
--- at which that container stands, and its references lie within the file. Its position is not above their number
+-- An open container: looking its object up gives a container of its length at its offset. So its object is below the count, its entry is the
+-- offset that is kept, that container stands there, and its references lie within the file. Its position is not above their number
 pub record Opened (file : List ℕ) (l : Layout) (f : Frame) : Type 0 where
   pub shape : Shape
-  pub offset : ℕ
-  pub look : lookOf file l (f .object) ≡ container shape (f .length) offset
-  pub standing : Standing file l (f .object) shape (f .length) offset
+  pub look : lookOf file l (f .object) ≡ container shape (f .length) (f .offset)
+  pub standing : Standing file l (f .object) shape (f .length) (f .offset)
   pub within : f .position ≤ refsOf shape (f .length)
 
 -- so its end or a reference is due
-pub opened-pending : {file : List ℕ} {l : Layout} {f : Frame} (t : Opened file l f) → Pending file l f (refsOf (t .shape) (f .length)) (t .offset)
-opened-pending {file} {l} {f} t = pending file l f (t .shape) (t .offset) (t .standing) (t .within)
+pub opened-pending : {file : List ℕ} {l : Layout} {f : Frame} (t : Opened file l f) → Pending file l f (refsOf (t .shape) (f .length)) (f .offset)
+opened-pending {file} {l} {f} t = pending file l f (t .shape) (t .standing) (t .within)
 
 -- The open containers, one at least: frames that aren't open are clear, the outermost container is the root, each other one is the
 -- reference that the one around it handed out last, and no object is open twice

@@ -57,7 +57,7 @@ module _ (file : List ℕ) (r : Reader) (o : Open file r) where
   unfolding passed
   passed-is place = rw (ne-eqb (r .depth) 0 (λ e. omega arith), advanced-is)
 
-  pub entered-is : (n k place : ℕ) → entered r n k place ≡ moved r place (r .depth + 1) (set nextTop (r .depth) (newFrame n k))
+  pub entered-is : (n k place : ℕ) → entered r n k place ≡ moved r place (r .depth + 1) (set nextTop (r .depth) (newFrame n k place))
   unfolding entered
   entered-is n k place = rw advanced-is
 
@@ -89,7 +89,7 @@ module _ (file : List ℕ) (r : Reader) (o : Open file r) where
         let fs = r .frames in
         let t = on-top file (o .layout) (o .root) (r .depth) fs (o .stack) n due-top in
         rw entered-is (open-moved offset (r .depth + 1) _
-        (stack-onto file (o .layout) (o .root) (r .depth) nextTop on-stack (newFrame n k)
+        (stack-onto file (o .layout) (o .root) (r .depth) nextTop on-stack (newFrame n k offset)
         (opened-new file (o .layout) n s k offset look)
         (λ i h q. not-open e i h (sym (on-object file (o .layout) (o .root) (r .depth) fs (o .stack) n due-top i) ∙ q))
         (rw (t, next-position) (omega arith))
@@ -111,7 +111,7 @@ module _ (file : List ℕ) (r : Reader) (o : Open file r) where
       go (inr d) = within (open-closed (omega (arith, o .stack .some)))
 
   open-step : Call file (o .layout) r → Reached file (nextOf file r .state)
-  open-step (call.closing offset e) = rw e reached-closed
+  open-step (call.closing e) = rw e reached-closed
   open-step (call.refusing number values place h e) = rw e (over refl)
   open-step (call.passing n d v offset a e) = rw e (within (open-passed n d offset))
   open-step (call.again n d m offset e) = rw e (over refl)
@@ -135,13 +135,13 @@ open-first file short l root says s k offset look =
       refs = refl;
       count = refl;
       table = refl;
-      stack = stack-root file l root k (opened-new file l root s k offset look);
+      stack = stack-root file l root k offset (opened-new file l root s k offset look);
     }
 
 first-step : (file : List ℕ) → First file → Reached file (nextOf file freshReader .state)
 first-step file (call.keeping number values place h e) = rw e (fresh refl)
 first-step file (call.refusing number values place h e) = rw e (over refl)
-first-step file (call.passing short v offset a e) = rw e (over refl)
+first-step file (call.passing short l root says v offset look e) = rw e (over refl)
 first-step file (call.entering short l root says s k offset look e) = rw e (within (open-first file short l root says s k offset look))
 
 pub reached-step : (file : List ℕ) (r : Reader) → Reached file r → Reached file (nextOf file r .state)

@@ -44,9 +44,9 @@ module _ (file : List ℕ) (r : Reader) (o : Open file r) where
       let q : c .layout ≡ o .layout = cc in
       let n = frameAt (r .frames) (c .depth) .object in
       let t = o .stack .opened (c .depth) (c .below) in
-      let d : dueOf file (o .layout) (innermost r) ≡ Member n = due-element file (o .layout) (innermost r) (inner file r o) ∙ ap (elementDue (inner file r o .offset)) (rw q at (c .named)) in
-      let e : Of (t .offset) ≡ Of place = sym (t .standing .entry) ∙ rw q at (c .stands) in
-      let p : t .offset ≡ place = cc in
+      let d : dueOf file (o .layout) (innermost r) ≡ Member n = due-element file (o .layout) (innermost r) (inner file r o) ∙ ap (elementDue (innermost r .offset)) (rw q at (c .named)) in
+      let e : Of (frameAt (r .frames) (c .depth) .offset) ≡ Of place = sym (t .standing .entry) ∙ rw q at (c .stands) in
+      let p : frameAt (r .frames) (c .depth) .offset ≡ place = cc in
       let m = member-in (r .frames) (r .depth) n (c .depth) (c .below) (omega arith) refl in
       next-follow file r o ∙ rw (d, t .look, m, p)
 
@@ -56,7 +56,7 @@ module _ (file : List ℕ) (r : Reader) (o : Open file r) where
       let s : lays (c .layout) (c .root) ≡ lays (o .layout) (o .root) = sym (c .says) ∙ o .says in
       let q : c .layout ≡ o .layout = cc in
       let t = o .stack .opened (c .at .depth) (c .at .below) in (
-        t .offset,
+        frameAt (r .frames) (c .at .depth) .offset,
         record {
           layout = o .layout;
           root = o .root;

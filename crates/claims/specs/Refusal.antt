@@ -11,17 +11,16 @@ use Rattle.event.specs.Same.{same}
 use Rattle.event.specs.declared.Event.{Event}
 use Rattle.event.specs.declared.Event.the-variants.{StartArray, StartDictionary, EndCollection, Boolean, Data, Date, Integer, Real, Nan, String, Uid}
 use Rattle.event.specs.declared.Length.the-variants.{Given}
-use Rattle.number.specs.declared.width.Width.the-variants.{One}
-use Rattle.object.specs.Container.{containerAt}
+use Rattle.number.specs.Either.{either}
 use Rattle.number.specs.Part.{part}
 use Rattle.object.specs.Object.{Found, objectAt}
 use Rattle.object.specs.Object as found
-use Rattle.object.specs.declared.container.Container.{Container}
-use Rattle.object.specs.declared.container.Container.the-variants.{Array, Dictionary, NoContainer}
-use Rattle.layout.specs.Bytes.{Asked, inFile, inUtf16, noBytes, denied, dataAsked, textAsked, givenIf, scalarAsked, startAsked, endAsked, eventAsked}
+use Rattle.layout.specs.Bytes.{Asked, inFile, inUtf16, noBytes, denied, dataAsked, textAsked, givenIf, scalarAsked, startAsked, endAsked, foundAsked}
+use Rattle.layout.specs.Listed.{isListed}
+use Rattle.layout.specs.Trailer.{Trailer, keeps, ends, lays, trailerOf}
 use Rattle.reader.specs.Machine.{refused}
 use Rattle.reader.specs.Next.{nextOf}
-use Rattle.reader.specs.Request.{long, refusing, askedOf, lengthSaid, scratchAfter}
+use Rattle.reader.specs.Request.{long, refusing, askedUnder, askedBy, askedOf, lengthSaid, scratchAfter}
 use Rattle.reader.specs.State.{maxLength, endedReader}
 use Rattle.reader.specs.declared.answer.Record.{Record}
 use Rattle.reader.specs.declared.state.Reader.{Reader}
@@ -78,31 +77,47 @@ scalar-wrong e (found.utf16 start n) = refl
 scalar-wrong e (found.array n) = refl
 scalar-wrong e (found.dictionary n) = refl
 
-start-wrong : (e : Event) (c : Container) → Wrong (startAsked e c)
+start-wrong : (e : Event) (x : Found) → Wrong (startAsked e x)
 unfolding startAsked
-start-wrong e NoContainer = refl
-start-wrong e (Array x) = given-wrong (same e (StartArray (Given (x .count))))
-start-wrong e (Dictionary x) = given-wrong (same e (StartDictionary (Given (x .count))))
+start-wrong e found.outside = refl
+start-wrong e (found.refused number values) = refl
+start-wrong e (found.scalar f) = refl
+start-wrong e (found.bytes start n) = refl
+start-wrong e (found.utf8 start n) = refl
+start-wrong e (found.utf16 start n) = refl
+start-wrong e (found.array n) = given-wrong (same e (StartArray (Given n)))
+start-wrong e (found.dictionary n) = given-wrong (same e (StartDictionary (Given n)))
 
-end-wrong : (c : Container) → Wrong (endAsked c)
+end-wrong : (x : Found) → Wrong (endAsked x)
 unfolding endAsked
-end-wrong NoContainer = refl
-end-wrong (Array x) = tt
-end-wrong (Dictionary x) = tt
+end-wrong found.outside = refl
+end-wrong (found.refused number values) = refl
+end-wrong (found.scalar f) = refl
+end-wrong (found.bytes start n) = refl
+end-wrong (found.utf8 start n) = refl
+end-wrong (found.utf16 start n) = refl
+end-wrong (found.array n) = tt
+end-wrong (found.dictionary n) = tt
 
-event-wrong : (file : List ℕ) (offset : ℕ) (e : Event) → Wrong (eventAsked file e offset)
-unfolding eventAsked
-event-wrong file offset (StartArray n) = start-wrong _ (containerAt file offset)
-event-wrong file offset (StartDictionary n) = start-wrong _ (containerAt file offset)
-event-wrong file offset EndCollection = end-wrong (containerAt file offset)
-event-wrong file offset (Boolean b) = scalar-wrong _ (objectAt file One offset)
-event-wrong file offset Data = data-wrong (objectAt file One offset)
-event-wrong file offset (Date b) = scalar-wrong _ (objectAt file One offset)
-event-wrong file offset (Integer i) = scalar-wrong _ (objectAt file One offset)
-event-wrong file offset (Real x) = scalar-wrong _ (objectAt file One offset)
-event-wrong file offset (Nan b) = scalar-wrong _ (objectAt file One offset)
-event-wrong file offset String = text-wrong (objectAt file One offset)
-event-wrong file offset (Uid n) = scalar-wrong _ (objectAt file One offset)
+found-wrong : (x : Found) (e : Event) → Wrong (foundAsked e x)
+unfolding foundAsked
+found-wrong x (StartArray n) = start-wrong _ x
+found-wrong x (StartDictionary n) = start-wrong _ x
+found-wrong x EndCollection = end-wrong x
+found-wrong x (Boolean b) = scalar-wrong _ x
+found-wrong x Data = data-wrong x
+found-wrong x (Date b) = scalar-wrong _ x
+found-wrong x (Integer i) = scalar-wrong _ x
+found-wrong x (Real v) = scalar-wrong _ x
+found-wrong x (Nan b) = scalar-wrong _ x
+found-wrong x String = text-wrong x
+found-wrong x (Uid n) = scalar-wrong _ x
+
+trailer-wrong : (file : List ℕ) (q : Record) (t : Trailer) → Wrong (askedBy file q t)
+unfolding askedBy askedUnder
+trailer-wrong file q (keeps number values place) = refl
+trailer-wrong file q (ends number values place) = refl
+trailer-wrong file q (lays l root) = either Wrong (isListed file l (q .number) (q .offset)) _ _ (λ h. found-wrong (objectAt file (l .refs) (q .offset)) (q .event)) (λ h. refl)
 
 -- the numbers of a text request with their places: 1 and 17 with 0, 16 with the record's offset
 pub data Asking (offset : ℕ) (number place : ℕ) : Type 0 where
@@ -147,7 +162,7 @@ request-refused file scratch q number values place e = go (ltb maxLength (length
         let p : number ≡ 1 = cc in
         let t : place ≡ 0 = cc in
         (too-long p t, rw f)
-    go false f = rw f (asked-refused file scratch (q .offset) (eventAsked file (q .event) (q .offset)) (event-wrong file (q .offset) (q .event)) number values place (rw f at e))
+    go false f = rw f (asked-refused file scratch (q .offset) (askedBy file q (trailerOf file)) (trailer-wrong file q (trailerOf file)) number values place (rw f at e))
 
 asking-keeps : (file : List ℕ) (offset number place : ℕ) → Asking offset number place → unchanged file number ≡ true
 unfolding unchanged

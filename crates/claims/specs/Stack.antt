@@ -32,7 +32,7 @@ same-or-not i j = go (eqb i j) refl
 pub due-below : (file : List ℕ) (l : Layout) (f : Frame) (t : Opened file l f) (n : ℕ) → dueOf file l f ≡ Member n → f .position < refsOf (t .shape) (f .length)
 due-below file l f t n due = go (opened-pending t)
   where
-    go : Pending file l f (refsOf (t .shape) (f .length)) (t .offset) → f .position < refsOf (t .shape) (f .length)
+    go : Pending file l f (refsOf (t .shape) (f .length)) (f .offset) → f .position < refsOf (t .shape) (f .length)
     go (end e) = let z : _≡_ {A = ℕ} 0 1 = cc in absurd (omega arith)
     go (reference k m e) = k
 
@@ -74,7 +74,7 @@ module _ (file : List ℕ) (l : Layout) (root depth : ℕ) (frames : List Frame)
     unfolding nextIn
     opened-next =
         let t = top-opened in
-        record { shape = t .shape; offset = t .offset; look = t .look; standing = t .standing; within = omega (arith, due-below file l top t n due) }
+        record { shape = t .shape; look = t .look; standing = t .standing; within = omega (arith, due-below file l top t n due) }
 
     opened-on : (i : ℕ) → i < depth → Opened file l (frameAt on i)
     opened-on i h = go (same-or-not i (depth - 1))
@@ -127,8 +127,8 @@ module _ (file : List ℕ) (l : Layout) (root depth : ℕ) (frames : List Frame)
         }
 
 -- a container that was looked up, as it is entered
-pub opened-new : (file : List ℕ) (l : Layout) (n : ℕ) (s : Shape) (k offset : ℕ) → lookOf file l n ≡ container s k offset → Opened file l (newFrame n k)
-opened-new file l n s k offset look = record { shape = s; offset = offset; look = look; standing = standing file l n s k offset look; within = omega arith }
+pub opened-new : (file : List ℕ) (l : Layout) (n : ℕ) (s : Shape) (k offset : ℕ) → lookOf file l n ≡ container s k offset → Opened file l (newFrame n k offset)
+opened-new file l n s k offset look = record { shape = s; look = look; standing = standing file l n s k offset look; within = omega arith }
 
 -- a container was entered, the reference that the innermost one handed out last
 module _ (file : List ℕ) (l : Layout) (root depth : ℕ) (frames : List Frame) (o : Stack file l root depth frames) (new : Frame) (opened-it : Opened file l new)
@@ -191,9 +191,9 @@ blank (suc n) zero = refl
 blank (suc n) (suc i) = blank n i
 
 -- the root was entered
-module _ (file : List ℕ) (l : Layout) (root k : ℕ) (opened-root : Opened file l (newFrame root k)) where
+module _ (file : List ℕ) (l : Layout) (root k offset : ℕ) (opened-root : Opened file l (newFrame root k offset)) where
   abbrev rootFrame : Frame
-  rootFrame = newFrame root k
+  rootFrame = newFrame root k offset
 
   pub stack-root : Stack file l root 1 (set (replicate maxOpen noFrame) 0 rootFrame)
   stack-root =

@@ -8,18 +8,15 @@ use Prim.Native.Nat.{ℕ, _≤_, _<_}
 use lib.ListN.{length, getElem?}
 use Rattle.number.specs.Width.{widthOf}
 use Rattle.number.specs.declared.width.Size.the-variants.{Allowed, NotAllowed}
-use Rattle.number.specs.declared.width.Width.the-variants.{One}
 use Rattle.event.specs.Meaning.{meaningOf}
 use Rattle.event.specs.declared.Event.{Event}
 use Rattle.event.specs.declared.Event.the-variants.{StartArray, StartDictionary, EndCollection, Boolean, Data, Date, Integer, Real, Nan, String, Uid}
 use Rattle.event.specs.declared.Length.the-variants.{Given}
-use Rattle.object.specs.Container.{containerAt}
-use Rattle.object.specs.Object.{objectAt}
+use Rattle.object.specs.Object.{Found, objectAt}
 use Rattle.object.specs.Object as found
-use Rattle.object.specs.declared.container.Container.the-variants.{Array, Dictionary, NoContainer}
-use Rattle.object.specs.declared.content.Extent.{Extent}
 use Rattle.layout.specs.Layout.{entryAt, standsAt}
 use Rattle.layout.specs.References.{lengthOf, entriesOf}
+use Rattle.layout.specs.Trailer.{lays, trailerOf}
 use Rattle.layout.specs.declared.frame.Frame.{Frame}
 use Rattle.layout.specs.declared.layout.Entry.the-variants.{Of, Outside}
 use Rattle.layout.specs.declared.layout.Layout.{Layout}
@@ -37,6 +34,8 @@ pub data WrongFrame (file : List ℕ) (l : Layout) (f : Frame) : Type 0 where
   reference : getElem? (entriesOf file l (f .object)) (f .position) ≡ some Outside → WrongFrame file l f
   -- the container's own entry,
   ownEntry : f .object < l .count → entryAt file l (f .object) ≡ Outside → WrongFrame file l f
+  -- which isn't the offset that was kept,
+  otherOffset : (offset : ℕ) → entryAt file l (f .object) ≡ Of offset → (offset ≡ f .offset → ⊥) → WrongFrame file l f
   -- or the entry of the object that the reference names
   namedEntry : (n : ℕ) → getElem? (entriesOf file l (f .object)) (f .position) ≡ some (Of n) → n < l .count → entryAt file l n ≡ Outside → WrongFrame file l f
 
@@ -65,26 +64,35 @@ pub record WrongCall (file : List ℕ) (r : Reader) : Type 0 where
   pub short : length file ≤ maxLength
   pub wrong : WrongState file r
 
--- "bytes are asked for a record that reading at its offset doesn't give". Data, text and scalars are found whatever the width of a reference.
--- A scalar stands there that means the same: integers by their value, reals and dates by their bits
-abbrev pub ScalarThere : List ℕ → Event → ℕ → Type 0
-ScalarThere file e offset = (x : Event) × (objectAt file One offset ≡ found.scalar x) × (meaningOf x [] ≡ meaningOf e [])
+-- A text request (R26, R27). What is found where a scalar is given: one that means the same, integers by their value, reals and dates by their bits
+abbrev pub ScalarThere : Event → Found → Type 0
+ScalarThere e x = (y : Event) × (x ≡ found.scalar y) × (meaningOf y [] ≡ meaningOf e [])
 
--- what reading at an offset finds where it gives a record of an event
-abbrev pub Gives : List ℕ → Event → ℕ → Type 0
-Gives file (StartArray n) offset = (e : Extent) × (containerAt file offset ≡ Array e) × (n ≡ Given (e .count))
-Gives file (StartDictionary n) offset = (e : Extent) × (containerAt file offset ≡ Dictionary e) × (n ≡ Given (e .count))
-Gives file EndCollection offset = containerAt file offset ≡ NoContainer → ⊥
-Gives file (Boolean b) offset = ScalarThere file (Boolean b) offset
-Gives file Data offset = (start : ℕ) × (n : ℕ) × (objectAt file One offset ≡ found.bytes start n)
-Gives file (Date b) offset = ScalarThere file (Date b) offset
-Gives file (Integer i) offset = ScalarThere file (Integer i) offset
-Gives file (Real x) offset = ScalarThere file (Real x) offset
-Gives file (Nan b) offset = ScalarThere file (Nan b) offset
-Gives file String offset = (start : ℕ) × (n : ℕ) × ((objectAt file One offset ≡ found.utf8 start n) ⊎ (objectAt file One offset ≡ found.utf16 start n))
-Gives file (Uid n) offset = ScalarThere file (Uid n) offset
+-- what reading finds where it gives a record of an event
+abbrev pub Gives : Event → Found → Type 0
+Gives (StartArray n) x = (k : ℕ) × (x ≡ found.array k) × (n ≡ Given k)
+Gives (StartDictionary n) x = (k : ℕ) × (x ≡ found.dictionary k) × (n ≡ Given k)
+Gives EndCollection x = (k : ℕ) × ((x ≡ found.array k) ⊎ (x ≡ found.dictionary k))
+Gives (Boolean b) x = ScalarThere (Boolean b) x
+Gives Data x = (start : ℕ) × (n : ℕ) × (x ≡ found.bytes start n)
+Gives (Date b) x = ScalarThere (Date b) x
+Gives (Integer i) x = ScalarThere (Integer i) x
+Gives (Real v) x = ScalarThere (Real v) x
+Gives (Nan b) x = ScalarThere (Nan b) x
+Gives String x = (start : ℕ) × (n : ℕ) × ((x ≡ found.utf8 start n) ⊎ (x ≡ found.utf16 start n))
+Gives (Uid n) x = ScalarThere (Uid n) x
+
+-- a file gives a record: its trailer is read, the record's number is below the count, its entry is the record's offset, and reading there, by
+-- the file's own size of references, gives the record
+pub record GivesRecord (file : List ℕ) (r : Record) : Type 0 where
+  pub layout : Layout
+  pub root : ℕ
+  pub says : trailerOf file ≡ lays layout root
+  pub numbered : r .number < layout .count
+  pub entry : entryAt file layout (r .number) ≡ Of (r .offset)
+  pub gives : Gives (r .event) (objectAt file (layout .refs) (r .offset))
 
 -- 1 comes before 17
 pub record WrongRequest (file : List ℕ) (r : Record) : Type 0 where
   pub short : length file ≤ maxLength
-  pub wrong : Gives file (r .event) (r .offset) → ⊥
+  pub wrong : GivesRecord file r → ⊥

@@ -6,7 +6,7 @@ use mathlib.Core.Option.{none, some}
 use mathlib.Core.Path.{_≡_, refl, sym, ap, _∙_}
 use Prim.Native.Nat.{ℕ, zero, suc, _≤_, _<_}
 use native.Mathlib.Omega.{arith}
-use borrow.Author.Tests.{lt-ltb, eqb-true, eqb-false, ltb-true, ltb-false}
+use borrow.Author.Tests.{lt-ltb, ne-eqb, eqb-true, eqb-false, ltb-true, ltb-false}
 use lib.Dec.{ltb, leb, eqb}
 use lib.ListN.{length, getElem?}
 use Rattle.number.specs.Width.{widthOf}
@@ -14,11 +14,11 @@ use Rattle.number.specs.Among.{among-not}
 use Rattle.number.specs.declared.width.Size.{Size}
 use Rattle.number.specs.declared.width.Size.the-variants.{Allowed, NotAllowed}
 use Rattle.layout.specs.Refusals.{fileRefusals, file-refusal, keeps-refusal, ends-refusal, not-file-17}
-use Rattle.layout.specs.Layout.{entryAt, given, dueOf, standsFrom, standsAt, lookFrom, lookOf, sourceOf}
+use Rattle.layout.specs.Layout.{entryAt, given, dueOf, standsFrom, standsAt, keptFrom, standsIn, lookFrom, lookOf, sourceOf}
 use Rattle.layout.specs.LookLaws.{Looked-right, look-right, entry-there}
 use Rattle.layout.specs.Looked.{Looked, barred, missing, faulty, scalar, container, Shape}
 use Rattle.layout.specs.References.{lengthOf, entriesOf}
-use Rattle.layout.specs.ReferencesLaws.{element-at, element-end, element-past, same-length, due-none, due-entry}
+use Rattle.layout.specs.ReferencesLaws.{element-at, element-end, element-past, same-length, kept-stands, due-none, due-entry}
 use Rattle.layout.specs.Trailer.{Trailer, keeps, ends, lays, trailerOf, trailerIn}
 use Rattle.layout.specs.TrailerLaws.{Tells, tells}
 use Rattle.layout.specs.declared.frame.Frame.{Frame}
@@ -31,7 +31,7 @@ use Rattle.reader.specs.NextLaws.{next-ended, next-begin, next-long, next-other
 use Rattle.reader.specs.State.{maxOpen, maxLength, innermost, openOf, memberOf}
 use Rattle.reader.specs.declared.state.Reader.{Reader}
 use Rattle.claims.specs.Stack.{same-or-not}
-use Rattle.claims.specs.WrongFile.{WrongFrame, otherObject, tooFar, reference, ownEntry, namedEntry, WrongState, otherLength, tooMany, offsetSize, refSize, frame, WrongCall}
+use Rattle.claims.specs.WrongFile.{WrongFrame, otherObject, tooFar, reference, ownEntry, otherOffset, namedEntry, WrongState, otherLength, tooMany, offsetSize, refSize, frame, WrongCall}
 
 -- the answer is a refusal with 17
 abbrev Says17 : Said → Type 0
@@ -74,29 +74,55 @@ module _ (file : List ℕ) (l : Layout) (r : Reader) where
   es = entriesOf file l (f .object)
 
   abbrev at : ℕ
-  at = standsAt file l (f .object) .offset
+  at = standsIn file l f .offset
 
+  -- a container of the frame's length stands where it was kept
   abbrev Here : Type 0
-  Here = lengthOf (standsAt file l (f .object) .container) ≡ some (f .length)
+  Here = lengthOf (standsIn file l f .container) ≡ some (f .length)
+
+  none-here : {P : Type 0} → none ≡ some (f .length) → P
+  none-here q = let z : _≡_ {A = ℕ} 0 1 = cc in absurd (omega arith)
+
+  -- so its entry is the offset that was kept
+  here-kept : Here → (offset : ℕ) → entryAt file l (f .object) ≡ Of offset → (offset ≡ f .offset → ⊥) → ⊥
+  unfolding standsIn keptFrom lengthOf
+  here-kept e offset h d = go (ltb (f .object) (l .count)) refl
+    where
+      go : (b : Bool) → ltb (f .object) (l .count) ≡ b → ⊥
+      go true q = none-here (rw (q, h, ne-eqb offset (f .offset) d) at e)
+      go false q = none-here (rw q at e)
+
+  -- and where none stands there, the object, the entry or the offset is another
+  not-here : (Here → ⊥) → WrongFrame file l f
+  unfolding standsIn keptFrom standsAt standsFrom lengthOf
+  not-here h = go (ltb (f .object) (l .count)) refl (entryAt file l (f .object)) refl
+    where
+      kept : f .object < l .count → (offset : ℕ) → entryAt file l (f .object) ≡ Of offset → (b : Bool) → eqb offset (f .offset) ≡ b → WrongFrame file l f
+      kept c offset e true q = otherObject (λ g. h (rw (lt-ltb _ _ c, e, q) (rw (lt-ltb _ _ c, e) at g)))
+      kept c offset e false q = otherOffset offset e (eqb-false _ _ q)
+
+      go : (b : Bool) → ltb (f .object) (l .count) ≡ b → (x : Entry) → entryAt file l (f .object) ≡ x → WrongFrame file l f
+      go false q x e = otherObject (λ g. none-here (rw q at g))
+      go true q Outside e = ownEntry (ltb-true _ _ q) e
+      go true q (Of offset) e = kept (ltb-true _ _ q) offset e (eqb offset (f .offset)) refl
 
   frame-then : WrongFrame file l f → follow (sourceOf file l) r (dueOf file l f) ≡ wrongFile r
-  unfolding follow sourceOf given arrive lookOf lookFrom standsAt standsFrom lengthOf
-  frame-then w = go (same-length (lengthOf (standsAt file l (f .object) .container)) (f .length)) w
+  unfolding follow sourceOf given arrive lookOf lookFrom standsIn keptFrom lengthOf
+  frame-then w = go (same-length (lengthOf (standsIn file l f .container)) (f .length)) w
     where
       go : Here ⊎ (Here → ⊥) → WrongFrame file l f → follow (sourceOf file l) r (dueOf file l f) ≡ wrongFile r
       go (inr h) w = rw (due-none file l f h)
-      go (inl e) (otherObject h) = absurd (h e)
+      go (inl e) (otherObject h) = absurd (h (rw (← kept-stands file l f e) e))
       go (inl e) (tooFar h) = rw (due-entry file l f e, element-past at es (f .position) h)
       go (inl e) (reference h) = rw (due-entry file l f e, element-at at es (f .position) Outside h)
       go (inl e) (ownEntry c h) =
-          let q : none ≡ some (f .length) = rw (lt-ltb _ _ c, h) at e in
-          let z : _≡_ {A = ℕ} 0 1 = cc in
-          absurd (omega arith)
+          none-here (rw (lt-ltb _ _ c, h) at e)
+      go (inl e) (otherOffset offset h d) = absurd (here-kept e offset h d)
       go (inl e) (namedEntry n h c q) = rw (due-entry file l f e, element-at at es (f .position) (Of n) h, lt-ltb _ _ c, q)
 
   frame-only : Says17 (follow (sourceOf file l) r (dueOf file l f) .answer) → WrongFrame file l f
   unfolding follow sourceOf given
-  frame-only s = go (same-length (lengthOf (standsAt file l (f .object) .container)) (f .length))
+  frame-only s = go (same-length (lengthOf (standsIn file l f .container)) (f .length))
     where
       entry : Here → (e : Entry) → getElem? es (f .position) ≡ some e → WrongFrame file l f
       entry h Outside g = reference g
@@ -115,7 +141,7 @@ module _ (file : List ℕ) (l : Layout) (r : Reader) where
 
       go : Here ⊎ (Here → ⊥) → WrongFrame file l f
       go (inl h) = place h (eqb (f .position) (length es)) refl (ltb (f .position) (length es)) refl
-      go (inr h) = otherObject h
+      go (inr h) = not-here h
 
 module _ (file : List ℕ) (r : Reader) where
   -- a state with something open

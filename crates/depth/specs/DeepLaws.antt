@@ -89,10 +89,10 @@ module _ (k j : ℕ) (short : length (fileOf (es k j)) ≤ maxLength) where
 
   -- a frame of array i as it is entered
   abbrev inner : ℕ → Frame
-  inner i = newFrame i 1
+  inner i = newFrame i 1 (offset k i)
 
   due-next : (i : ℕ) → i < k → src .due (inner i) ≡ Member (suc i)
-  due-next i h = shown i (suc (k - suc i)) (omega arith) .member (inner i) 0 (record { object = refl; long = refl; stands = refl }) (lit< tt)
+  due-next i h = shown i (suc (k - suc i)) (omega arith) .member (inner i) 0 (record { object = refl; kept = refl; long = refl; stands = refl }) (lit< tt)
 
   look-one : (i : ℕ) → i < k → src .look i ≡ container looked.array 1 (offset k i)
   look-one i h = shown i (suc (k - suc i)) (omega arith) .look

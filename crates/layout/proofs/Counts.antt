@@ -13,11 +13,14 @@ use Rattle.number.specs.WidthLaws.{bytesIn-pos}
 use Rattle.number.specs.declared.width.Width.{Width}
 use Rattle.object.specs.declared.container.Container.{Container}
 use Rattle.object.specs.declared.container.Container.the-variants.{Array, Dictionary, NoContainer}
+use Rattle.object.specs.Container.{containerAt}
 use Rattle.object.specs.Content.{trailerAt}
+use Rattle.object.specs.declared.content.Extent.{Extent}
+use Rattle.layout.specs.FoundLaws.{made}
 use Rattle.layout.specs.LookLaws.{standing}
 use Rattle.layout.specs.TestLaws.{first, second}
-use Rattle.layout.specs.Layout.{numberAt, given, dueAt, placeIn, inArray, inDictionary, dueIn, standsAt, dueOf, lookOf}
-use Rattle.layout.specs.Looked.{container, Shape}
+use Rattle.layout.specs.Layout.{numberAt, given, dueAt, placeIn, inArray, inDictionary, dueIn, standsIn, dueOf, lookOf}
+use Rattle.layout.specs.Looked.{container, Shape, array, dictionary}
 use Rattle.event.specs.Format.{maxLength}
 use Rattle.layout.specs.declared.layout.Due.the-variants.{Wrong, Close, Member}
 use Rattle.layout.specs.declared.layout.Layout.{Layout}
@@ -68,7 +71,7 @@ module _ (file : List ℕ) (short : length file ≤ maxLength) (n : ℕ) where
   -- so its position can be counted on
   pub counted : (l : Layout) (f : Frame) → dueOf file l f ≡ Member n → f .position + 1 < 2 ^ 32
   unfolding dueOf
-  counted l f e = counts-in-container l f _ (standsAt file l (f .object) .container) e
+  counted l f e = counts-in-container l f _ (standsIn file l f .container) e
 
 -- a container that is looked up has a number below the count, and at most as many elements or pairs as there are bytes before the trailer
 pub numbered : (file : List ℕ) (l : Layout) (n : ℕ) (s : Shape) (k o : ℕ) → lookOf file l n ≡ container s k o → n < l .count
@@ -76,3 +79,17 @@ numbered file l n s k o e = standing file l n s k o e .numbered
 
 pub measured : (file : List ℕ) (l : Layout) (n : ℕ) (s : Shape) (k o : ℕ) → lookOf file l n ≡ container s k o → k ≤ trailerAt file
 measured file l n s k o e = standing file l n s k o e .lies .few
+
+-- a container stands before the trailer
+no-made : (s : Shape) (x : Extent) → NoContainer ≡ made s x → ⊥
+unfolding made
+no-made array x e = let z : _≡_ {A = ℕ} 0 1 = cc in omega arith
+no-made dictionary x e = let z : _≡_ {A = ℕ} 0 1 = cc in omega arith
+
+pub stands-before : (file : List ℕ) (l : Layout) (n : ℕ) (s : Shape) (k o : ℕ) → lookOf file l n ≡ container s k o → o < trailerAt file
+unfolding containerAt
+stands-before file l n s k o h = go (ltb o (trailerAt file)) refl
+  where
+    go : (b : Bool) → ltb o (trailerAt file) ≡ b → o < trailerAt file
+    go true q = ltb-true _ _ q
+    go false q = absurd (no-made s (standing file l n s k o h .lies .extent) (rw q at (standing file l n s k o h .lies .is)))

@@ -7,9 +7,6 @@ use Rattle.event.specs.Same.{same}
 use Rattle.event.specs.declared.Event.{Event}
 use Rattle.event.specs.declared.Event.the-variants.{StartArray, StartDictionary, EndCollection, Boolean, Data, Date, Integer, Real, Nan, String, Uid}
 use Rattle.event.specs.declared.Length.the-variants.{Given}
-use Rattle.object.specs.Container.{containerAt}
-use Rattle.object.specs.declared.container.Container.{Container}
-use Rattle.object.specs.declared.container.Container.the-variants.{Array, Dictionary, NoContainer}
 use Rattle.object.specs.Object.{Found, objectAt, outside, refused, scalar, bytes, utf8, utf16, array, dictionary}
 use Rattle.layout.specs.Looked as Looked
 use Rattle.layout.specs.Looked.{Looked, barred, missing, faulty, container}
@@ -22,7 +19,7 @@ pub data Asked : Type 0 where
   noBytes : Asked
   denied : ℕ → List ℕ → Asked
 
--- what reading at a record's offset gives; 17 where it isn't the record (R27)
+-- a record of data or text, by what reading at its offset gives; 17 where that isn't the record (R27)
 unfoldable pub dataAsked : Found → Asked
 dataAsked outside = denied 17 []
 dataAsked (refused number values) = denied 17 []
@@ -58,31 +55,55 @@ scalarAsked e (utf16 start n) = denied 17 []
 scalarAsked e (array n) = denied 17 []
 scalarAsked e (dictionary n) = denied 17 []
 
--- a start: a container of that kind and length stands there. No file gives a start without a length
-unfoldable pub startAsked : Event → Container → Asked
-startAsked e NoContainer = denied 17 []
-startAsked e (Array x) = givenIf (same e (StartArray (Given (x .count))))
-startAsked e (Dictionary x) = givenIf (same e (StartDictionary (Given (x .count))))
+-- a start: reading gives a container of that kind and length, its end measured. No file gives a start without a length
+unfoldable pub startAsked : Event → Found → Asked
+startAsked e outside = denied 17 []
+startAsked e (refused number values) = denied 17 []
+startAsked e (scalar f) = denied 17 []
+startAsked e (bytes start n) = denied 17 []
+startAsked e (utf8 start n) = denied 17 []
+startAsked e (utf16 start n) = denied 17 []
+startAsked e (array n) = givenIf (same e (StartArray (Given n)))
+startAsked e (dictionary n) = givenIf (same e (StartDictionary (Given n)))
 
--- an end: a container stands there
-unfoldable pub endAsked : Container → Asked
-endAsked NoContainer = denied 17 []
-endAsked (Array x) = noBytes
-endAsked (Dictionary x) = noBytes
+-- an end: reading gives a container
+unfoldable pub endAsked : Found → Asked
+endAsked outside = denied 17 []
+endAsked (refused number values) = denied 17 []
+endAsked (scalar e) = denied 17 []
+endAsked (bytes start n) = denied 17 []
+endAsked (utf8 start n) = denied 17 []
+endAsked (utf16 start n) = denied 17 []
+endAsked (array n) = noBytes
+endAsked (dictionary n) = noBytes
 
--- scalars are read without references, so their width doesn't matter; a container is looked at as an open one is, its room not measured
+-- an event's record, by what reading at its offset gives (R27)
+unfoldable pub foundAsked : Event → Found → Asked
+foundAsked (StartArray n) x = startAsked (StartArray n) x
+foundAsked (StartDictionary n) x = startAsked (StartDictionary n) x
+foundAsked EndCollection x = endAsked x
+foundAsked (Boolean b) x = scalarAsked (Boolean b) x
+foundAsked Data x = dataAsked x
+foundAsked (Date b) x = scalarAsked (Date b) x
+foundAsked (Integer i) x = scalarAsked (Integer i) x
+foundAsked (Real b) x = scalarAsked (Real b) x
+foundAsked (Nan b) x = scalarAsked (Nan b) x
+foundAsked String x = textAsked x
+foundAsked (Uid n) x = scalarAsked (Uid n) x
+
+-- where the bytes stand of an event that was read at an offset. Data and text are read without references, so their width doesn't matter
 unfoldable pub eventAsked : List ℕ → Event → ℕ → Asked
-eventAsked file (StartArray n) offset = startAsked (StartArray n) (containerAt file offset)
-eventAsked file (StartDictionary n) offset = startAsked (StartDictionary n) (containerAt file offset)
-eventAsked file EndCollection offset = endAsked (containerAt file offset)
-eventAsked file (Boolean b) offset = scalarAsked (Boolean b) (objectAt file One offset)
+eventAsked file (StartArray n) offset = noBytes
+eventAsked file (StartDictionary n) offset = noBytes
+eventAsked file EndCollection offset = noBytes
+eventAsked file (Boolean b) offset = noBytes
 eventAsked file Data offset = dataAsked (objectAt file One offset)
-eventAsked file (Date b) offset = scalarAsked (Date b) (objectAt file One offset)
-eventAsked file (Integer i) offset = scalarAsked (Integer i) (objectAt file One offset)
-eventAsked file (Real x) offset = scalarAsked (Real x) (objectAt file One offset)
-eventAsked file (Nan b) offset = scalarAsked (Nan b) (objectAt file One offset)
+eventAsked file (Date b) offset = noBytes
+eventAsked file (Integer i) offset = noBytes
+eventAsked file (Real x) offset = noBytes
+eventAsked file (Nan b) offset = noBytes
 eventAsked file String offset = textAsked (objectAt file One offset)
-eventAsked file (Uid n) offset = scalarAsked (Uid n) (objectAt file One offset)
+eventAsked file (Uid n) offset = noBytes
 
 -- data and text have bytes
 unfoldable pub hasBytes : Event → Bool
@@ -97,20 +118,6 @@ hasBytes (Real x) = false
 hasBytes (Nan b) = false
 hasBytes String = true
 hasBytes (Uid n) = false
-
--- the scalars that have none
-unfoldable pub isWhole : Event → Bool
-isWhole (StartArray n) = false
-isWhole (StartDictionary n) = false
-isWhole EndCollection = false
-isWhole (Boolean b) = true
-isWhole Data = false
-isWhole (Date b) = true
-isWhole (Integer i) = true
-isWhole (Real x) = true
-isWhole (Nan b) = true
-isWhole String = false
-isWhole (Uid n) = true
 
 -- the bytes of an object that is looked up: a scalar's are asked for as its event's, and nothing else has any
 unfoldable pub lookedBytes : List ℕ → Looked → Asked

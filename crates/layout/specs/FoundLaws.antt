@@ -1,6 +1,6 @@
 -- What is known of what is found at an offset: a refusal's number is one of the list; scalars, data and text are found whatever the width of a
 -- reference, data and text lie within the file, and text is text; a container is found again, and its references lie within the file.
-use mathlib.Core.Bool.{true, false, false≢true}
+use mathlib.Core.Bool.{true}
 use mathlib.Core.List.{List, []}
 use mathlib.Core.Path.{_≡_, refl}
 use Prim.Native.Nat.{ℕ, _+_, _*_, _≤_}
@@ -13,11 +13,8 @@ use Rattle.number.specs.WidthLaws.{bytesIn-pos}
 use Rattle.number.specs.declared.width.Width.{Width}
 use Rattle.number.specs.declared.width.Width.the-variants.{One}
 use Rattle.unicode.specs.Unicode.{isUtf8, isUtf16}
-use Rattle.event.specs.Same.{same}
-use Rattle.event.specs.SameLaws.{means-same}
 use Rattle.event.specs.declared.Event.{Event}
 use Rattle.event.specs.declared.Event.the-variants.{StartArray, StartDictionary, EndCollection, Boolean, Data, Date, Integer, Real, Nan, String, Uid}
-use Rattle.event.specs.declared.Length.the-variants.{Given}
 use Rattle.object.specs.Container.{containerAt}
 use Rattle.object.specs.Content.{trailerAt}
 use Rattle.object.specs.KnownLaws.{Plain, Known, known}
@@ -26,7 +23,7 @@ use Rattle.object.specs.Object as found
 use Rattle.object.specs.declared.container.Container.{Container}
 use Rattle.object.specs.declared.container.Container.the-variants.{Array, Dictionary}
 use Rattle.object.specs.declared.content.Extent.{Extent}
-use Rattle.layout.specs.Bytes.{Asked, inFile, inUtf16, noBytes, denied, dataAsked, textAsked, scalarAsked, startAsked, eventAsked, isWhole, lookedBytes}
+use Rattle.layout.specs.Bytes.{Asked, inFile, inUtf16, noBytes, denied, dataAsked, textAsked, eventAsked, lookedBytes}
 use Rattle.layout.specs.Layout.{lookIn}
 use Rattle.layout.specs.Looked.{Shape, array, dictionary, startOf}
 use Rattle.layout.specs.Refusals.{Faults, object-refusal}
@@ -94,53 +91,38 @@ foundBytes (found.utf16 start n) = inUtf16 start n
 foundBytes (found.array n) = denied 17 []
 foundBytes (found.dictionary n) = denied 17 []
 
--- a scalar that is found carries all that it is
-pub plain-whole : (e : Event) → Plain e → isWhole e ≡ true
-unfolding isWhole
-plain-whole (StartArray n) h = absurd h
-plain-whole (StartDictionary n) h = absurd h
-plain-whole EndCollection h = absurd h
-plain-whole (Boolean b) h = refl
-plain-whole Data h = absurd h
-plain-whole (Date b) h = refl
-plain-whole (Integer i) h = refl
-plain-whole (Real x) h = refl
-plain-whole (Nan b) h = refl
-plain-whole String h = absurd h
-plain-whole (Uid n) h = refl
-
--- an event is the same as itself
-same-itself : (e : Event) → same e e ≡ true
-same-itself e = means-same e e refl
-
 module _ (file : List ℕ) where
-  -- a scalar without bytes is given where it is read
-  pub whole-given : (e : Event) (offset : ℕ) → isWhole e ≡ true → objectAt file One offset ≡ found.scalar e → eventAsked file e offset ≡ noBytes
-  unfolding eventAsked scalarAsked isWhole
-  whole-given (StartArray n) offset w h = absurd (false≢true w)
-  whole-given (StartDictionary n) offset w h = absurd (false≢true w)
-  whole-given EndCollection offset w h = absurd (false≢true w)
-  whole-given (Boolean b) offset w h = rw (h, same-itself (Boolean b))
-  whole-given Data offset w h = absurd (false≢true w)
-  whole-given (Date b) offset w h = rw (h, same-itself (Date b))
-  whole-given (Integer i) offset w h = rw (h, same-itself (Integer i))
-  whole-given (Real x) offset w h = rw (h, same-itself (Real x))
-  whole-given (Nan b) offset w h = rw (h, same-itself (Nan b))
-  whole-given String offset w h = absurd (false≢true w)
-  whole-given (Uid n) offset w h = rw (h, same-itself (Uid n))
+  -- a scalar that is found carries all that it is, and has no bytes
+  pub plain-asked : (e : Event) (offset : ℕ) → Plain e → eventAsked file e offset ≡ noBytes
+  unfolding eventAsked
+  plain-asked (StartArray n) offset h = absurd h
+  plain-asked (StartDictionary n) offset h = absurd h
+  plain-asked EndCollection offset h = absurd h
+  plain-asked (Boolean b) offset h = refl
+  plain-asked Data offset h = absurd h
+  plain-asked (Date b) offset h = refl
+  plain-asked (Integer i) offset h = refl
+  plain-asked (Real x) offset h = refl
+  plain-asked (Nan b) offset h = refl
+  plain-asked String offset h = absurd h
+  plain-asked (Uid n) offset h = refl
 
-  -- and a container's start where that container stands
-  pub start-given : (each : ℕ) (s : Shape) (n offset : ℕ) → Lies file each s n (containerAt file offset) → eventAsked file (startOf s n) offset ≡ noBytes
-  unfolding eventAsked startAsked startOf made
-  start-given each array n offset t = rw (t .is, t .counts, same-itself (StartArray (Given n)))
-  start-given each dictionary n offset t = rw (t .is, t .counts, same-itself (StartDictionary (Given n)))
+  -- nor has a container's start, or its end
+  pub start-asked : (s : Shape) (n offset : ℕ) → eventAsked file (startOf s n) offset ≡ noBytes
+  unfolding eventAsked startOf
+  start-asked array n offset = refl
+  start-asked dictionary n offset = refl
+
+  pub end-asked : (offset : ℕ) → eventAsked file EndCollection offset ≡ noBytes
+  unfolding eventAsked
+  end-asked offset = refl
 
   -- where the bytes of what is looked up stand: where they were found
   in-bytes : (each offset : ℕ) (x : Found) → Sound file each x (objectAt file One offset) (containerAt file offset) → lookedBytes file (lookIn offset x) ≡ foundBytes x
   unfolding lookIn lookedBytes foundBytes eventAsked dataAsked textAsked
   in-bytes each offset found.outside h = refl
   in-bytes each offset (found.refused number values) h = refl
-  in-bytes each offset (found.scalar e) h = whole-given e offset (plain-whole e (h .1)) (h .0)
+  in-bytes each offset (found.scalar e) h = plain-asked e offset (h .1)
   in-bytes each offset (found.bytes start n) h = rw (h .0)
   in-bytes each offset (found.utf8 start n) h = rw (h .0)
   in-bytes each offset (found.utf16 start n) h = rw (h .0)

@@ -71,9 +71,17 @@ standsFrom file (Of offset) = record { offset = offset; container = containerAt 
 unfoldable pub standsAt : List ℕ → Layout → ℕ → Standing
 standsAt file l n = cond (ltb n (l .count)) (standsFrom file (entryAt file l n)) nowhere
 
--- what is due in an open container: it is looked at again where its entry says that it stands
+-- the same for an open container: nowhere where its entry isn't the offset that was kept
+unfoldable pub keptFrom : List ℕ → ℕ → Entry → Standing
+keptFrom file kept Outside = nowhere
+keptFrom file kept (Of offset) = cond (eqb offset kept) (record { offset = offset; container = containerAt file offset }) nowhere
+
+unfoldable pub standsIn : List ℕ → Layout → Frame → Standing
+standsIn file l f = cond (ltb (f .object) (l .count)) (keptFrom file (f .offset) (entryAt file l (f .object))) nowhere
+
+-- what is due in an open container: it is looked at again where its entry says that it stands, if that is where it stood
 unfoldable pub dueOf : List ℕ → Layout → Frame → Due
-dueOf file l f = dueIn file l f (standsAt file l (f .object) .offset) (standsAt file l (f .object) .container)
+dueOf file l f = dueIn file l f (standsIn file l f .offset) (standsIn file l f .container)
 
 -- what is found at an object's offset
 unfoldable pub lookIn : ℕ → Found → Looked

@@ -3,6 +3,8 @@ pub mod Computed
 pub mod FoundLaws
 pub mod Frame
 pub mod Layout
+pub mod Listed
+pub mod ListedLaws
 pub mod LookLaws
 pub mod Looked
 pub mod References

@@ -7,7 +7,7 @@ use mathlib.Core.Path.{_≡_, refl}
 use Prim.Native.Nat.{ℕ, suc, _+_, _*_, _≤_, _<_}
 use native.Mathlib.Nat.{mul-le-mul-right, suc-mul}
 use native.Mathlib.Omega.{arith}
-use borrow.Author.Tests.{lt-ltb, le-leb, ltb-true}
+use borrow.Author.Tests.{lt-ltb, le-leb, ltb-true, eq-eqb}
 use lib.Dec.{ltb, eqb}
 use lib.ListN.{length}
 use Rattle.number.specs.Among.{among}
@@ -26,21 +26,15 @@ use Rattle.object.specs.KnownLaws.{Plain}
 use Rattle.object.specs.Refusal.{objectRefusals}
 use Rattle.object.specs.Object.{Found, objectAt}
 use Rattle.object.specs.Object as found
-use Rattle.object.specs.declared.container.Container.{Container}
-use Rattle.object.specs.declared.container.Container.the-variants.{Array, Dictionary, NoContainer}
-use Rattle.layout.specs.Bytes.{Asked, inFile, inUtf16, noBytes, denied, dataAsked, textAsked, endAsked, eventAsked, hasBytes}
-use Rattle.layout.specs.FoundLaws.{Lies, Sound, sound, plain-whole, whole-given}
-use Rattle.layout.specs.Layout.{numberAt, entryAt, given, dueAt, inArray, inDictionary, dueIn, standsFrom, standsAt, dueOf, lookIn, lookFrom, lookOf}
+use Rattle.layout.specs.Bytes.{Asked, inFile, inUtf16, noBytes, denied, dataAsked, textAsked, eventAsked, hasBytes}
+use Rattle.layout.specs.FoundLaws.{Lies, Sound, sound, plain-asked}
+use Rattle.layout.specs.Layout.{numberAt, entryAt, standsFrom, standsAt, keptFrom, standsIn, lookIn, lookFrom, lookOf}
 use Rattle.layout.specs.Refusals.{lookRefusals, Faults}
 use Rattle.layout.specs.Looked.{Looked, barred, missing, faulty, scalar, container, Shape, withPlace}
-use Rattle.number.specs.Either.{either}
 use Rattle.layout.specs.declared.frame.Frame.{Frame}
-use Rattle.layout.specs.declared.layout.Due.{Due}
-use Rattle.layout.specs.declared.layout.Due.the-variants.{Wrong, Close}
 use Rattle.layout.specs.declared.layout.Entry.{Entry}
 use Rattle.layout.specs.declared.layout.Entry.the-variants.{Of, Outside}
 use Rattle.layout.specs.declared.layout.Layout.{Layout}
-use Rattle.layout.specs.declared.layout.Standing.{Standing as StandingRead}
 
 -- an event that the file gives, by where its bytes stand: data or UTF-8 as they are, UTF-16; nowhere, if it has none
 abbrev pub Bytes-right : List ℕ → Event → Asked → Type 0
@@ -106,7 +100,7 @@ module _ (file : List ℕ) (l : Layout) (n : ℕ) where
     unfolding lookIn eventAsked dataAsked textAsked
     in-right offset entry found.outside h = listed-6
     in-right offset entry (found.refused number values) h = h
-    in-right offset entry (found.scalar e) h = rw (whole-given file e offset (plain-whole e (h .1)) (h .0)) (plain-bare e (h .1))
+    in-right offset entry (found.scalar e) h = rw (plain-asked file e offset (h .1)) (plain-bare e (h .1))
     in-right offset entry (found.bytes start k) h = rw (h .0) (inl refl)
     in-right offset entry (found.utf8 start k) h = rw (h .0) (inr (refl, h .2))
     in-right offset entry (found.utf16 start k) h = rw (h .0) (refl, h .2)
@@ -135,6 +129,11 @@ module _ (file : List ℕ) (l : Layout) (n : ℕ) where
     unfolding standsAt standsFrom
     looked-stands = rw (lt-ltb _ _ (standing .numbered), standing .entry)
 
+    -- and where a frame of it with that offset stands
+    pub looked-in : (f : Frame) → f .object ≡ n → f .offset ≡ offset → standsIn file l f ≡ record { offset = offset; container = containerAt file offset }
+    unfolding standsIn keptFrom
+    looked-in f p q = rw (p, q, lt-ltb _ _ (standing .numbered), standing .entry, eq-eqb offset offset refl)
+
 -- the offset table ends at or before T
 abbrev pub Laid : List ℕ → Layout → Type 0
 Laid file l = l .table + l .count * bytesIn (l .offsets) ≤ trailerAt file
@@ -155,49 +154,6 @@ module _ (file : List ℕ) (l : Layout) (laid : Laid file l) (n : ℕ) where
       let t = entry-there (k .0) in
       let z : _≡_ {A = ℕ} 0 1 = cc in
       omega arith
-
--- where the end of a container is due, a container stands: the end is given
-module _ (file : List ℕ) (l : Layout) (f : Frame) (offset : ℕ) where
-  closes : {P : Type 0} (b : Bool) (x y : Due) → (x ≡ Close offset → P) → (y ≡ Close offset → P) → cond b x y ≡ Close offset → P
-  closes true x y p q e = p e
-  closes false x y p q e = q e
-
-  never : {P : Type 0} → Wrong ≡ Close offset → P
-  never e = let z : _≡_ {A = ℕ} 0 1 = cc in absurd (omega arith)
-
-  at-close : (refs : Width) (o start references place position : ℕ) → dueAt file refs o start references place position ≡ Close offset → o ≡ offset
-  unfolding dueAt given
-  at-close refs o start references place position =
-      closes (eqb position references) _ _ (λ e. cc)
-      (closes (ltb position references) _ _ (go (numberAt file refs (start + place * bytesIn refs))) never)
-    where
-      go : (x : Entry) → given x ≡ Close offset → o ≡ offset
-      go Outside e = never e
-      go (Of n) e = let z : _≡_ {A = ℕ} 0 1 = cc in absurd (omega arith)
-
-  -- the container of a frame that closes at an offset, where it stands
-  abbrev Closing : ℕ → Container → Type 0
-  Closing o c = dueIn file l f o c ≡ Close offset → (o ≡ offset) × (endAsked c ≡ noBytes)
-
-  in-close : (o : ℕ) (c : Container) → Closing o c
-  unfolding dueIn inArray inDictionary endAsked
-  in-close o NoContainer e = never e
-  in-close o (Array x) e = (closes (eqb (x .count) (f .length)) _ _ (at-close (l .refs) o (x .start) _ _ _) never e, refl)
-  in-close o (Dictionary x) e = (closes (eqb (x .count) (f .length)) _ _ (at-close (l .refs) o (x .start) _ _ _) never e, refl)
-
-  abbrev Given-at : StandingRead → Type 0
-  Given-at s = dueIn file l f (s .offset) (s .container) ≡ Close offset → eventAsked file EndCollection offset ≡ noBytes
-
-  from-close : (x : Entry) → Given-at (standsFrom file x)
-  unfolding standsFrom eventAsked dueIn
-  from-close Outside e = never e
-  from-close (Of o) e =
-      let t = in-close o (containerAt file o) e in
-      rw (← t .0) (t .1)
-
-  pub close-given : dueOf file l f ≡ Close offset → eventAsked file EndCollection offset ≡ noBytes
-  unfolding dueOf standsAt dueIn
-  close-given = either Given-at (ltb (f .object) (l .count)) _ _ (λ h. from-close (entryAt file l (f .object))) (λ h. never)
 
 -- a scalar and a container are the same with any place
 module _ (place : ℕ) where

@@ -10,11 +10,12 @@ use native.Mathlib.Omega.{arith}
 use borrow.Author.Tests.{lt-ltb, eq-eqb, ne-eqb, eqb-true, eqb-false, ltb-true, ltb-false}
 use lib.Dec.{ltb, eqb}
 use lib.ListN.{length, getElem?, length-map}
+use Rattle.number.specs.Either.{either}
 use Rattle.number.specs.Width.{bytesIn}
 use Rattle.number.specs.declared.width.Width.{Width}
 use Rattle.object.specs.declared.container.Container.{Container}
 use Rattle.object.specs.declared.container.Container.the-variants.{Array, Dictionary, NoContainer}
-use Rattle.layout.specs.Layout.{numberAt, entryAt, placeIn, given, dueAt, inArray, inDictionary, dueIn, dueOf, standsFrom, standsAt}
+use Rattle.layout.specs.Layout.{numberAt, entryAt, placeIn, given, dueAt, inArray, inDictionary, dueIn, dueOf, nowhere, standsFrom, standsAt, keptFrom, standsIn}
 use Rattle.layout.specs.declared.frame.Frame.{Frame}
 use Rattle.layout.specs.declared.layout.Due.{Due}
 use Rattle.layout.specs.declared.layout.Due.the-variants.{Wrong, Close, Member}
@@ -134,8 +135,8 @@ module _ (file : List ℕ) (l : Layout) (f : Frame) (offset : ℕ) where
       let q : e .count ≡ f .length = cc in
       rw (eq-eqb _ _ q, ← q) (listed _ (2 * e .count) (e .start) (placeIn (e .count) (f .position)) (length-turn file (l .refs) (e .start) _ (e .count)) (turn-at file (l .refs) (e .start) (e .count) (f .position)))
 
--- what is due in a frame is due in what stands at its object's offset
-pub due-here : (file : List ℕ) (l : Layout) (f : Frame) → dueOf file l f ≡ dueIn file l f (standsAt file l (f .object) .offset) (standsAt file l (f .object) .container)
+-- what is due in a frame is due in what stands where it was kept
+pub due-here : (file : List ℕ) (l : Layout) (f : Frame) → dueOf file l f ≡ dueIn file l f (standsIn file l f .offset) (standsIn file l f .container)
 unfolding dueOf
 due-here file l f = refl
 
@@ -154,7 +155,7 @@ number-at (e ∷ es) (suc p) n h = number-at es p n h
 -- What is due in a frame, whatever it says: nothing; the end, at the number of its object's references; or the reference at its position
 abbrev pub Dues : List ℕ → Layout → Frame → Due → Type 0
 Dues file l f Wrong = Unit {0}
-Dues file l f (Close offset) = (offset ≡ standsAt file l (f .object) .offset) × (f .position ≡ length (referencesOf file l (f .object)))
+Dues file l f (Close offset) = (offset ≡ standsIn file l f .offset) × (f .position ≡ length (referencesOf file l (f .object)))
 Dues file l f (Member n) = getElem? (referencesOf file l (f .object)) (f .position) ≡ some n
 
 -- the same among references
@@ -188,7 +189,28 @@ same-length (some n) k = go (eqb n k) refl
 
 module _ (file : List ℕ) (l : Layout) (f : Frame) where
   abbrev stand : Standing
-  stand = standsAt file l (f .object)
+  stand = standsIn file l f
+
+  -- a container that stands where it was kept stands where its entry says
+  abbrev Here : Standing → Standing → Type 0
+  Here s t = lengthOf (s .container) ≡ some (f .length) → s ≡ t
+
+  not-here : (t : Standing) → Here nowhere t
+  unfolding lengthOf
+  not-here t e = let z : _≡_ {A = ℕ} 0 1 = cc in absurd (omega arith)
+
+  kept-entry : (x : Entry) → Here (keptFrom file (f .offset) x) (standsFrom file x)
+  unfolding keptFrom standsFrom
+  kept-entry Outside = not-here nowhere
+  kept-entry (Of o) = either (λ (s : Standing). Here s (standsFrom file (Of o))) (eqb o (f .offset)) _ _ (λ h e. refl) (λ h. not-here _)
+
+  pub kept-stands : lengthOf (stand .container) ≡ some (f .length) → stand ≡ standsAt file l (f .object)
+  unfolding standsIn standsAt
+  kept-stands = go (ltb (f .object) (l .count)) refl
+    where
+      go : (b : Bool) → ltb (f .object) (l .count) ≡ b → Here (standsIn file l f) (standsAt file l (f .object))
+      go true e = rw e (kept-entry (entryAt file l (f .object)))
+      go false e = rw e (not-here nowhere)
 
   as-numbers : (d : Due) → Elements (stand .offset) (entriesOf file l (f .object)) (f .position) d → Dues file l f d
   unfolding referencesOf
@@ -203,7 +225,7 @@ module _ (file : List ℕ) (l : Layout) (f : Frame) where
   -- else what its references say at the position
   pub due-entry : lengthOf (stand .container) ≡ some (f .length) → dueOf file l f ≡ elementOf (stand .offset) (entriesOf file l (f .object)) (f .position)
   unfolding entriesOf
-  due-entry h = due-here file l f ∙ due-listed file l f (stand .offset) (stand .container) h
+  due-entry h = due-here file l f ∙ due-listed file l f (stand .offset) (stand .container) h ∙ ap (λ (s : Standing). elementOf (stand .offset) (entriesIn file (l .refs) (s .container)) (f .position)) (kept-stands h)
 
   pub dues : Dues file l f (dueOf file l f)
   dues = go (same-length (lengthOf (stand .container)) (f .length))

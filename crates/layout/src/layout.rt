@@ -15,7 +15,8 @@ ghost use lib.ListN.{length};
 ghost use Rattle.number.specs.Be.{be};
 ghost use Rattle.number.specs.Part.{part};
 ghost use Rattle.layout.specs.declared.layout.Entry.the-variants.{Of, Outside};
-ghost use Rattle.layout.specs.Layout.{numberAt, entryAt, dueAt, inArray, inDictionary, dueIn, dueOf, standsAt};
+ghost use Rattle.layout.specs.Layout.{numberAt, entryAt, dueAt, inArray, inDictionary, dueIn, dueOf, standsIn};
+ghost use Rattle.layout.specs.Listed.{isListed};
 ghost use Rattle.layout.specs.Said.{dueSaid};
 
 pub struct Layout {
@@ -109,27 +110,43 @@ pub(crate) fn entry_at(file: &[u8], layout: Layout, object: u32) -> Entry
     read_at(file, bytes, layout.table as usize + object as usize * bytes)
 }
 
-// What is due in an open container: it is looked at again where its entry says that it stands.
+// What is due in an open container: it is looked at again where its entry says that it stands, if that is where it stood.
 pub fn due_at(file: &[u8], layout: Layout, frame: Frame) -> Due
     ensures { λ r. ⌜ dueSaid r ≡ dueSaid (dueOf (now (file .entry)) layout frame) ⌝ }
 {
-    due_in(file, layout, frame, stands_at(file, layout, frame.object))
+    due_in(file, layout, frame, stands_in(file, layout, frame))
 }
 
-// Where a container stands, and what stands there; no container where there is none.
-pub fn stands_at(file: &[u8], layout: Layout, object: u32) -> Standing
-    ensures { λ r. ⌜ r ≡ standsAt (now (file .entry)) layout object ⌝ }
+// Where an open container stands, and what stands there; no container where its entry isn't the offset that was kept.
+pub fn stands_in(file: &[u8], layout: Layout, frame: Frame) -> Standing
+    ensures { λ r. ⌜ r ≡ standsIn (now (file .entry)) layout frame ⌝ }
 {
-    if layout.count <= object {
+    if layout.count <= frame.object {
         return Standing::NOWHERE;
     }
-    let Entry::Of(offset) = entry_at(file, layout, object) else {
+    let Entry::Of(offset) = entry_at(file, layout, frame.object) else {
         return Standing::NOWHERE;
     };
+    if offset != frame.offset as u64 {
+        return Standing::NOWHERE;
+    }
     Standing {
         offset,
         container: container_at(file, offset as usize),
     }
+}
+
+// Whether the table has an offset under a number.
+pub fn is_listed(file: &[u8], layout: Layout, object: u32, offset: u64) -> bool
+    ensures { λ r. ⌜ r ≡ isListed (now (file .entry)) layout object offset ⌝ }
+{
+    if layout.count <= object {
+        return false;
+    }
+    let Entry::Of(entry) = entry_at(file, layout, object) else {
+        return false;
+    };
+    entry == offset
 }
 
 // What is due in a container that was looked at already.

@@ -14,6 +14,7 @@ unfolding digits.computed Be.bytesOf
     Calendar.isLeap Calendar.daysInYear Calendar.daysInMonth Calendar.timeSinceOne Count.countOff
     Date.sinceWhole Date.sinceFloor Date.sinceOf Date.timeSince Date.calendarOf
     Floor.ceiling Floor.floorFraction Floor.floorOf Floor.floorOfBits Ieee.ofBits
-    Line.hexDigit Line.hex Line.tail Line.spaced Line.row Line.lengthGiven Line.truth Line.dated Line.dateLine Line.lineOf Line.refusalLine
+    Line.hexDigit Line.hex Line.tail Line.spaced Line.row Line.ended Line.lengthGiven Line.truth Line.dated Line.dateRow Line.rowOf Line.lineOf Line.refusalLine
+    Line.labelled Line.originOf Line.traceOf
     Put.fixedLine
 computed = tt

@@ -1,4 +1,4 @@
--- The lines of a listing. docs/FORMAT.md, rules L1 to L3 and L8.
+-- The lines of a listing, and of one that says of each event where it comes from. docs/FORMAT.md, rules L1 to L3, L8 and L9.
 use mathlib.Core.Bool.{Bool, true, false, cond}
 use mathlib.Core.List.{List, [], _∷_, _++_}
 use mathlib.Core.Option.{Option, none, some}
@@ -31,9 +31,13 @@ tail (b ∷ bs) = 32 ∷ hex (b ∷ bs)
 unfoldable pub spaced : List ℕ → List ℕ
 spaced number = 32 ∷ number
 
--- a line: its word, its number, its bytes, a newline
+-- a row: a word, a number, bytes
 unfoldable pub row : List ℕ → List ℕ → List ℕ → List ℕ
-row word number s = word ++ (number ++ (tail s ++ (10 ∷ [])))
+row word number s = word ++ (number ++ tail s)
+
+-- a line: a row, a mark behind it, a newline
+unfoldable pub ended : List ℕ → List ℕ → List ℕ
+ended r mark = r ++ (mark ++ (10 ∷ []))
 
 -- a container's length stands where it is known
 unfoldable pub lengthGiven : Option ℕ → List ℕ
@@ -49,22 +53,38 @@ unfoldable pub dated : ℕ → Said Time → List ℕ
 dated b (gives t) = row (ascii "date") (spaced (stamp t)) []
 dated b (refused number) = row (ascii "date") [] (bytesOf 8 b)
 
-unfoldable pub dateLine : ℕ → List ℕ
-dateLine b = dated b (calendarOf b)
+unfoldable pub dateRow : ℕ → List ℕ
+dateRow b = dated b (calendarOf b)
+
+-- what an event's line says
+unfoldable pub rowOf : Meaning → List ℕ
+rowOf (array n) = row (ascii "array") (lengthGiven n) []
+rowOf (dictionary n) = row (ascii "dict") (lengthGiven n) []
+rowOf close = row (ascii "close") [] []
+rowOf (boolean b) = row (truth b) [] []
+rowOf (bytes s) = row (ascii "data") (spaced (decimal (length s))) s
+rowOf (date b) = dateRow b
+rowOf (integer z) = row (ascii "int") (spaced (signed z)) []
+rowOf (real b) = row (ascii "real") [] (bytesOf 8 b)
+rowOf (text s) = row (ascii "str") (spaced (decimal (length s))) s
+rowOf (uid n) = row (ascii "uid") (spaced (decimal n)) []
+
+-- a number behind a space and a byte that says what it is
+unfoldable pub labelled : ℕ → ℕ → List ℕ
+labelled label n = 32 ∷ label ∷ decimal n
+
+-- where an event comes from: ` #number @offset`; 35 is `#` and 64 is `@` (L9)
+unfoldable pub originOf : ℕ → ℕ → List ℕ
+originOf number offset = labelled 35 number ++ labelled 64 offset
 
 -- the line of an event
 unfoldable pub lineOf : Meaning → List ℕ
-lineOf (array n) = row (ascii "array") (lengthGiven n) []
-lineOf (dictionary n) = row (ascii "dict") (lengthGiven n) []
-lineOf close = row (ascii "close") [] []
-lineOf (boolean b) = row (truth b) [] []
-lineOf (bytes s) = row (ascii "data") (spaced (decimal (length s))) s
-lineOf (date b) = dateLine b
-lineOf (integer z) = row (ascii "int") (spaced (signed z)) []
-lineOf (real b) = row (ascii "real") [] (bytesOf 8 b)
-lineOf (text s) = row (ascii "str") (spaced (decimal (length s))) s
-lineOf (uid n) = row (ascii "uid") (spaced (decimal n)) []
+lineOf m = ended (rowOf m) []
+
+-- the same with its origin behind it
+unfoldable pub traceOf : ℕ → ℕ → Meaning → List ℕ
+traceOf number offset m = ended (rowOf m) (originOf number offset)
 
 -- `refused N at P`
 unfoldable pub refusalLine : ℕ → ℕ → List ℕ
-refusalLine number place = ascii "refused" ++ (spaced (decimal number) ++ row (ascii " at") (spaced (decimal place)) [])
+refusalLine number place = ascii "refused" ++ (spaced (decimal number) ++ ended (row (ascii " at") (spaced (decimal place)) []) [])

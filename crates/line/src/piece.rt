@@ -11,8 +11,8 @@ ghost use mathlib.Core.Path.{_≡_};
 ghost use Prim.Native.Nat.{_+_, _≤_, _<_};
 ghost use lib.ListN.{length};
 ghost use Rattle.digits.specs.Put.{Written};
-ghost use Rattle.line.specs.Line.{hexDigit, hex, tail};
-ghost use Rattle.line.specs.Piece.{numeralOf};
+ghost use Rattle.line.specs.Line.{hexDigit, hex, tail, labelled};
+ghost use Rattle.line.specs.Piece.{numeralOf, markOf};
 
 // What follows a line's word: nothing, a number, one with its sign, or a day and time.
 pub enum Numeral {
@@ -20,6 +20,12 @@ pub enum Numeral {
     Number(u64),
     Integer(Integer),
     Stamp(Time),
+}
+
+// What stands behind a line: nothing, or the number and the offset of the object that it comes from.
+pub enum Mark {
+    Nothing,
+    Origin(u64, u64),
 }
 
 // Two hex digits for each byte.
@@ -93,5 +99,41 @@ pub(crate) fn numeral_length(number: Numeral) -> usize
         Numeral::Number(n) => 1 + decimal_length(n),
         Numeral::Integer(integer) => 1 + signed_length(integer),
         Numeral::Stamp(_) => 1 + STAMP_LENGTH,
+    }
+}
+
+// ` #number @offset`, where there is an origin.
+pub(crate) fn write_mark(out: &mut [u8], at: usize, mark: Mark) -> usize
+    requires { ⌜ at + length (markOf mark) ≤ length (now out) ⌝ }
+    ensures { λ r. ⌜ Written (now (out .entry)) at (markOf mark) (now (out .exit)) r ⌝ }
+{
+    match mark {
+        Mark::Nothing => at,
+        Mark::Origin(number, offset) => {
+            let offset_at = write_labelled(out, at, b'#', number);
+            write_labelled(out, offset_at, b'@', offset)
+        }
+    }
+}
+
+// A space, a byte that says what the number is, and the number.
+fn write_labelled(out: &mut [u8], at: usize, label: u8, n: u64) -> usize
+    requires { ⌜ at + length (labelled label n) ≤ length (now out) ⌝ }
+    ensures { λ r. ⌜ Written (now (out .entry)) at (labelled label n) (now (out .exit)) r ⌝ }
+{
+    out[at] = b' ';
+    out[at + 1] = label;
+    put_decimal(out, at + 2, n);
+    at + 2 + decimal_length(n)
+}
+
+// How many bytes a mark takes.
+pub(crate) fn mark_length(mark: Mark) -> usize
+    ensures { λ r. ⌜ r ≡ length (markOf mark) ⌝ }
+    ensures { λ r. ⌜ r ≤ 44 ⌝ }
+{
+    match mark {
+        Mark::Nothing => 0,
+        Mark::Origin(number, offset) => 4 + decimal_length(number) + decimal_length(offset),
     }
 }

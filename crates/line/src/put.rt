@@ -1,6 +1,9 @@
 // Putting a line from a place on: whole, where it fits, else nothing changes.
+use crate::piece::Mark;
 use crate::piece::Numeral;
+use crate::piece::mark_length;
 use crate::piece::numeral_length;
+use crate::piece::write_mark;
 use crate::piece::write_numeral;
 use crate::piece::write_tail;
 use calendar::Dated;
@@ -20,9 +23,9 @@ ghost use lib.ListN.{length};
 ghost use Rattle.number.specs.Be.{bytesOf};
 ghost use Rattle.digits.specs.Put.{Written, putEnd, putInto};
 ghost use Rattle.event.specs.Meaning.{meaningOf, givenOf};
-ghost use Rattle.line.specs.Line.{row, lengthGiven, dateLine, lineOf, refusalLine};
-ghost use Rattle.line.specs.Piece.{numeralOf, spaceOf, lineSize};
-ghost use Rattle.line.specs.Put.{fixedLine};
+ghost use Rattle.line.specs.Line.{row, ended, lengthGiven, dateRow, refusalLine};
+ghost use Rattle.line.specs.Piece.{numeralOf, markOf, spaceOf, lineSize};
+ghost use Rattle.line.specs.Put.{fixedLine, eventLine};
 
 // The lines of one word about the listing itself.
 pub enum Fixed {
@@ -31,29 +34,43 @@ pub enum Fixed {
     Stopped,
 }
 
-// The line of an event, beside which the bytes of its data or text stand.
-pub fn put_event(out: &mut [u8], at: usize, event: Event, bytes: &[u8]) -> Put
-    ensures { λ r. ⌜ r ≡ putEnd (now (out .entry)) at (lineOf (meaningOf event (now (bytes .entry)))) ⌝ }
-    ensures { λ _. ⌜ now (out .exit) ≡ putInto (now (out .entry)) at (lineOf (meaningOf event (now (bytes .entry)))) ⌝ }
+// The line of an event, beside which the bytes of its data or text stand, with a mark behind it or without.
+pub fn put_event(out: &mut [u8], at: usize, event: Event, bytes: &[u8], mark: Mark) -> Put
+    ensures { λ r. ⌜ r ≡ putEnd (now (out .entry)) at (eventLine mark (meaningOf event (now (bytes .entry)))) ⌝ }
+    ensures { λ _. ⌜ now (out .exit) ≡ putInto (now (out .entry)) at (eventLine mark (meaningOf event (now (bytes .entry)))) ⌝ }
 {
     match event {
-        Event::StartArray(length) => put_row(out, at, b"array", given(length), b""),
-        Event::StartDictionary(length) => put_row(out, at, b"dict", given(length), b""),
-        Event::EndCollection => put_row(out, at, b"close", Numeral::Nothing, b""),
+        Event::StartArray(length) => put_row(out, at, b"array", given(length), b"", mark),
+        Event::StartDictionary(length) => put_row(out, at, b"dict", given(length), b"", mark),
+        Event::EndCollection => put_row(out, at, b"close", Numeral::Nothing, b"", mark),
         Event::Boolean(value) => {
             if value {
-                put_row(out, at, b"true", Numeral::Nothing, b"")
+                put_row(out, at, b"true", Numeral::Nothing, b"", mark)
             } else {
-                put_row(out, at, b"false", Numeral::Nothing, b"")
+                put_row(out, at, b"false", Numeral::Nothing, b"", mark)
             }
         }
-        Event::Data => put_row(out, at, b"data", Numeral::Number(bytes.len() as u64), bytes),
-        Event::Date(bits) => put_date(out, at, bits),
-        Event::Integer(integer) => put_row(out, at, b"int", Numeral::Integer(integer), b""),
-        Event::Real(x) => put_bits(out, at, b"real", float_bits(x)),
-        Event::Nan(bits) => put_bits(out, at, b"real", bits),
-        Event::String => put_row(out, at, b"str", Numeral::Number(bytes.len() as u64), bytes),
-        Event::Uid(n) => put_row(out, at, b"uid", Numeral::Number(n), b""),
+        Event::Data => put_row(
+            out,
+            at,
+            b"data",
+            Numeral::Number(bytes.len() as u64),
+            bytes,
+            mark,
+        ),
+        Event::Date(bits) => put_date(out, at, bits, mark),
+        Event::Integer(integer) => put_row(out, at, b"int", Numeral::Integer(integer), b"", mark),
+        Event::Real(x) => put_bits(out, at, b"real", float_bits(x), mark),
+        Event::Nan(bits) => put_bits(out, at, b"real", bits, mark),
+        Event::String => put_row(
+            out,
+            at,
+            b"str",
+            Numeral::Number(bytes.len() as u64),
+            bytes,
+            mark,
+        ),
+        Event::Uid(n) => put_row(out, at, b"uid", Numeral::Number(n), b"", mark),
     }
 }
 
@@ -66,7 +83,15 @@ pub fn put_refusal(out: &mut [u8], at: usize, number: u64, place: u64) -> Put
     if has_room(out.len(), at, 10, numbers, 0) {
         write_bytes(out, at, b"refused");
         let at_at = write_numeral(out, at + 7, Numeral::Number(number));
-        return Put::End(write_row(out, at_at, b" at", Numeral::Number(place), b""));
+        let end = write_row(
+            out,
+            at_at,
+            b" at",
+            Numeral::Number(place),
+            b"",
+            Mark::Nothing,
+        );
+        return Put::End(end);
     }
     Put::NoRoom
 }
@@ -76,59 +101,67 @@ pub fn put_fixed(out: &mut [u8], at: usize, fixed: Fixed) -> Put
     ensures { λ _. ⌜ now (out .exit) ≡ putInto (now (out .entry)) at (fixedLine fixed) ⌝ }
 {
     match fixed {
-        Fixed::Events => put_row(out, at, b"events", Numeral::Nothing, b""),
-        Fixed::End => put_row(out, at, b"end", Numeral::Nothing, b""),
-        Fixed::Stopped => put_row(out, at, b"stopped", Numeral::Nothing, b""),
+        Fixed::Events => put_row(out, at, b"events", Numeral::Nothing, b"", Mark::Nothing),
+        Fixed::End => put_row(out, at, b"end", Numeral::Nothing, b"", Mark::Nothing),
+        Fixed::Stopped => put_row(out, at, b"stopped", Numeral::Nothing, b"", Mark::Nothing),
     }
 }
 
 // A date as a day and time, or where it has none as its bits.
-fn put_date(out: &mut [u8], at: usize, bits: u64) -> Put
-    ensures { λ r. ⌜ r ≡ putEnd (now (out .entry)) at (dateLine bits) ⌝ }
-    ensures { λ _. ⌜ now (out .exit) ≡ putInto (now (out .entry)) at (dateLine bits) ⌝ }
+fn put_date(out: &mut [u8], at: usize, bits: u64, mark: Mark) -> Put
+    ensures { λ r. ⌜ r ≡ putEnd (now (out .entry)) at (ended (dateRow bits) (markOf mark)) ⌝ }
+    ensures { λ _. ⌜ now (out .exit) ≡ putInto (now (out .entry)) at (ended (dateRow bits) (markOf mark)) ⌝ }
 {
     let Dated::At(time) = calendar_of(bits) else {
-        return put_bits(out, at, b"date", bits);
+        return put_bits(out, at, b"date", bits, mark);
     };
-    put_row(out, at, b"date", Numeral::Stamp(time), b"")
+    put_row(out, at, b"date", Numeral::Stamp(time), b"", mark)
 }
 
 // A word and 16 hex digits.
-fn put_bits(out: &mut [u8], at: usize, word: &[u8], bits: u64) -> Put
-    ensures { λ r. ⌜ r ≡ putEnd (now (out .entry)) at (row (now (word .entry)) [] (bytesOf 8 bits)) ⌝ }
-    ensures { λ _. ⌜ now (out .exit) ≡ putInto (now (out .entry)) at (row (now (word .entry)) [] (bytesOf 8 bits)) ⌝ }
+fn put_bits(out: &mut [u8], at: usize, word: &[u8], bits: u64, mark: Mark) -> Put
+    ensures { λ r. ⌜ r ≡ putEnd (now (out .entry)) at (ended (row (now (word .entry)) [] (bytesOf 8 bits)) (markOf mark)) ⌝ }
+    ensures { λ _. ⌜ now (out .exit) ≡ putInto (now (out .entry)) at (ended (row (now (word .entry)) [] (bytesOf 8 bits)) (markOf mark)) ⌝ }
 {
     let mut bytes = [0u8; 8];
     write_be(&mut bytes, bits);
-    put_row(out, at, word, Numeral::Nothing, &bytes)
+    put_row(out, at, word, Numeral::Nothing, &bytes, mark)
 }
 
 // A line is measured first, so that one that doesn't fit changes nothing.
-fn put_row(out: &mut [u8], at: usize, word: &[u8], number: Numeral, bytes: &[u8]) -> Put
-    ensures { λ r. ⌜ r ≡ putEnd (now (out .entry)) at (row (now (word .entry)) (numeralOf number) (now (bytes .entry))) ⌝ }
-    ensures { λ _. ⌜ now (out .exit) ≡ putInto (now (out .entry)) at (row (now (word .entry)) (numeralOf number) (now (bytes .entry))) ⌝ }
+fn put_row(out: &mut [u8], at: usize, word: &[u8], number: Numeral, bytes: &[u8], mark: Mark) -> Put
+    ensures { λ r. ⌜ r ≡ putEnd (now (out .entry)) at (ended (row (now (word .entry)) (numeralOf number) (now (bytes .entry))) (markOf mark)) ⌝ }
+    ensures { λ _. ⌜ now (out .exit) ≡ putInto (now (out .entry)) at (ended (row (now (word .entry)) (numeralOf number) (now (bytes .entry))) (markOf mark)) ⌝ }
 {
-    let digits = numeral_length(number);
-    if has_room(out.len(), at, word.len(), digits, bytes.len()) {
-        return Put::End(write_row(out, at, word, number, bytes));
+    let numbers = numeral_length(number) + mark_length(mark);
+    if has_room(out.len(), at, word.len(), numbers, bytes.len()) {
+        return Put::End(write_row(out, at, word, number, bytes, mark));
     }
     Put::NoRoom
 }
 
-fn write_row(out: &mut [u8], at: usize, word: &[u8], number: Numeral, bytes: &[u8]) -> usize
-    requires { ⌜ at + length (row (now word) (numeralOf number) (now bytes)) ≤ length (now out) ⌝ }
-    ensures { λ r. ⌜ Written (now (out .entry)) at (row (now (word .entry)) (numeralOf number) (now (bytes .entry))) (now (out .exit)) r ⌝ }
+fn write_row(
+    out: &mut [u8],
+    at: usize,
+    word: &[u8],
+    number: Numeral,
+    bytes: &[u8],
+    mark: Mark,
+) -> usize
+    requires { ⌜ at + length (ended (row (now word) (numeralOf number) (now bytes)) (markOf mark)) ≤ length (now out) ⌝ }
+    ensures { λ r. ⌜ Written (now (out .entry)) at (ended (row (now (word .entry)) (numeralOf number) (now (bytes .entry))) (markOf mark)) (now (out .exit)) r ⌝ }
 {
     write_bytes(out, at, word);
     let bytes_at = write_numeral(out, at + word.len(), number);
-    let newline_at = write_tail(out, bytes_at, bytes);
+    let mark_at = write_tail(out, bytes_at, bytes);
+    let newline_at = write_mark(out, mark_at, mark);
     out[newline_at] = b'\n';
     newline_at + 1
 }
 
-// Whether a line fits from a place on: its word, its numbers, its bytes, its newline. No sum here can pass the top.
+// Whether a line fits from a place on: its word, its numbers with those of its mark, its bytes, its newline. No sum here can pass the top.
 fn has_room(room: usize, at: usize, word: usize, numbers: usize, bytes: usize) -> bool
-    requires { ⌜ numbers ≤ 42 ⌝ }
+    requires { ⌜ numbers ≤ 65 ⌝ }
     ensures { λ r. ⌜ r ≡ leb (at + lineSize word numbers bytes) room ⌝ }
 {
     if room / 2 < bytes {

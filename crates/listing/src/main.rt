@@ -13,5 +13,6 @@ fn main() {
         &mut input,
         &mut scratch,
         &mut line,
+        false,
     );
 }

@@ -1,5 +1,5 @@
 // Lists files of data/, one behind the other: P10 of docs/FORMAT.md, dates, files that are refused, input as long as may be and a byte longer. Long
-// listings are counted and not shown: of containers as deep as may be and one too deep, and those that are as long as may be.
+// listings are counted and not shown: of containers as deep as may be and one too deep, and those that are as long as may be. Then traces of some.
 use libc::STDOUT_FILENO;
 use say::list::list_input;
 
@@ -23,13 +23,22 @@ fn main() {
     count(b"events-65535");
     count(b"events-65536");
     count(b"events-65540");
+    trace(b"p10");
+    trace(b"dates");
+    trace(b"recursive");
+    trace(b"wide");
+    trace(b"zeros");
 }
 
 fn show(name: &[u8]) {
-    list_file(name, STDOUT_FILENO);
+    list_file(name, STDOUT_FILENO, false);
 }
 
-fn list_file(name: &[u8], to: i32) {
+fn trace(name: &[u8]) {
+    list_file(name, STDOUT_FILENO, true);
+}
+
+fn list_file(name: &[u8], to: i32, traced: bool) {
     let mut input = [0u8; 65536];
     let mut scratch = [0u8; 65536];
     let mut line = [0u8; 131200];
@@ -38,7 +47,7 @@ fn list_file(name: &[u8], to: i32) {
         os::fail(name);
         return;
     }
-    list_input(file, to, &mut input, &mut scratch, &mut line);
+    list_input(file, to, &mut input, &mut scratch, &mut line, traced);
     libc::close(file);
 }
 
@@ -60,7 +69,7 @@ fn lengthen() {
 // A listing goes to a file. How many lines that has, and the last of them.
 fn count(name: &[u8]) {
     let to = os::open_overwrite(b"lines");
-    list_file(name, to);
+    list_file(name, to, false);
     libc::close(to);
     let mut lines = [0u8; 524288];
     let from = os::open_read(b"lines");

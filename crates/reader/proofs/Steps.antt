@@ -10,9 +10,10 @@ use lib.ListN.{length, set}
 use Rattle.number.specs.Among.{among}
 use Rattle.event.specs.declared.Event.{Event}
 use Rattle.event.specs.declared.Event.the-variants.{EndCollection}
-use Rattle.layout.proofs.Counts.{counted, numbered, measured}
+use Rattle.layout.proofs.Counts.{counted, numbered, measured, stands-before}
 use Rattle.layout.specs.Frame.{newFrame, noFrame, nextIn}
 use Rattle.layout.specs.Layout.{dueOf, lookOf, sourceOf}
+use Rattle.layout.specs.ListedLaws.{scalar-seen}
 use Rattle.layout.specs.LookLaws.{look-right, placed-scalar, placed-container}
 use Rattle.layout.specs.Refusals.{fileRefusals}
 use Rattle.layout.specs.Looked.{Looked, withPlace, faulty, scalar, container, Shape, startOf}
@@ -20,7 +21,7 @@ use Rattle.layout.specs.declared.frame.Frame.{Frame}
 use Rattle.layout.specs.declared.layout.Due.{Due}
 use Rattle.layout.specs.declared.layout.Due.the-variants.{Wrong, Close, Member}
 use Rattle.layout.specs.declared.layout.Layout.{Layout}
-use Rattle.reader.specs.Machine.{Step, eventAt, step, refuse, wrongFile, enter, arrive, follow}
+use Rattle.reader.specs.Machine.{Step, origin, eventAt, step, refuse, wrongFile, enter, arrive, follow}
 use Rattle.reader.specs.Next.{nextOf}
 use Rattle.reader.specs.NextLaws.{arrive-refused, arrive-missing}
 use Rattle.reader.specs.State.{maxOpen, maxLength, endedReader, moved, openOf, innermost, memberOf, advanced, passed, entered, closed}
@@ -48,17 +49,17 @@ module _ (x : Going) where
   is-wrong d = sym (x .on ∙ ap (follow (sourceOf (x .file) (x .layout)) (x .reader)) d)
 
   module _ (offset : ℕ) (d : due ≡ Close offset) where
-    call-close : call ≡ step (closed (x .reader)) (eventAt EndCollection offset)
+    call-close : call ≡ step (closed (x .reader)) (eventAt EndCollection (origin (innermost (x .reader) .object) offset))
     unfolding follow
     call-close = x .on ∙ ap (follow (sourceOf (x .file) (x .layout)) (x .reader)) d
 
-    pub is-last : x .reader .depth - 1 ≡ 0 → step endedReader (eventAt EndCollection offset) ≡ call
+    pub is-last : x .reader .depth - 1 ≡ 0 → step endedReader (eventAt EndCollection (origin (innermost (x .reader) .object) offset)) ≡ call
     unfolding closed
     is-last e =
         let z : x .reader .depth ≡ 1 = omega (arith, x .some) in
         sym (call-close ∙ rw (eq-eqb _ _ z))
 
-    pub closes : (x .reader .depth - 1 ≡ 0 → ⊥) → step (moved (x .reader) (x .reader .place) (x .reader .depth - 1) (set (x .reader .frames) (x .reader .depth - 1) noFrame)) (eventAt EndCollection offset) ≡ call
+    pub closes : (x .reader .depth - 1 ≡ 0 → ⊥) → step (moved (x .reader) (x .reader .place) (x .reader .depth - 1) (set (x .reader .frames) (x .reader .depth - 1) noFrame)) (eventAt EndCollection (origin (innermost (x .reader) .object) offset)) ≡ call
     unfolding closed
     closes e =
         let z : x .reader .depth ≡ 1 → ⊥ = λ h. e (omega arith) in
@@ -95,9 +96,13 @@ module _ (y : Named) where
   pub is-refused : (number : ℕ) (values : List ℕ) (place : ℕ) → among fileRefusals number ≡ true → looked ≡ faulty number values place → refuse number values place ≡ call (y .going)
   is-refused number values place n e = sym (call-arrive ∙ arrive-refused (y .going .file) (y .going .layout) r (y .object) number values place n found e)
 
-  pub passes : (e : Event) (offset : ℕ) → looked ≡ scalar e offset → step (moved r offset (r .depth) frames) (eventAt e offset) ≡ call (y .going)
+  pub passes : (e : Event) (offset : ℕ) → looked ≡ scalar e offset → step (moved r offset (r .depth) frames) (eventAt e (origin (y .object) offset)) ≡ call (y .going)
   unfolding arrive passed advanced
   passes e offset h = sym (call-arrive ∙ rw (placed-scalar (r .place) found e offset h, ne-eqb _ _ (y .going .some)))
+
+  -- the number of a scalar stays within 32 bits
+  pub scalar-number : (e : Event) (offset : ℕ) → looked ≡ scalar e offset → y .object < 2 ^ 32
+  scalar-number e offset h = omega (arith, y .going .few, scalar-seen (y .going .file) (y .going .layout) (y .object) e offset (placed-scalar (r .place) found e offset h) .numbered)
 
   -- the innermost container's position can be counted on
   pub counts : innermost r .position + 1 < 2 ^ 32
@@ -131,7 +136,7 @@ module _ (z : Holding) where
     unfolding enter
     is-deep h = sym (call-enter ∙ rw (m, le-leb _ _ h))
 
-    pub enters : r y .depth < maxOpen → step (moved (r y) (z .offset) (r y .depth + 1) (set (frames y) (r y .depth) (newFrame (y .object) (z .count)))) (eventAt (startOf (z .shape) (z .count)) (z .offset)) ≡ call (y .going)
+    pub enters : r y .depth < maxOpen → step (moved (r y) (z .offset) (r y .depth + 1) (set (frames y) (r y .depth) (newFrame (y .object) (z .count) (z .offset)))) (eventAt (startOf (z .shape) (z .count)) (origin (y .object) (z .offset))) ≡ call (y .going)
     unfolding enter entered advanced
     enters h = sym (call-enter ∙ rw (m, lt-leb _ _ h, ne-eqb _ _ (y .going .some)))
 
@@ -141,3 +146,6 @@ module _ (z : Holding) where
 
   pub short-count : z .count < 2 ^ 32
   short-count = omega (arith, y .going .short, measured (y .going .file) (y .going .layout) (y .object) (z .shape) (z .count) (z .offset) holds)
+
+  pub short-offset : z .offset < 2 ^ 32
+  short-offset = omega (arith, y .going .short, stands-before (y .going .file) (y .going .layout) (y .object) (z .shape) (z .count) (z .offset) holds)

@@ -13,6 +13,6 @@ unfolding layout.computed
     Machine.enter Machine.arrive Machine.follow Machine.stepOf
     Meanings.bytesAsked Meanings.meaningAt Meanings.told Meanings.answers
     Next.laidOut Next.begin Next.withRefs Next.goOn Next.nextOf
-    Request.askedOf Request.lengthSaid Request.scratchAfter Request.partSaid
+    Request.askedUnder Request.askedBy Request.askedOf Request.lengthSaid Request.scratchAfter Request.partSaid
     State.openOf State.innermost State.memberOf State.advanced State.passed State.entered State.closed
 computed = tt

@@ -6,13 +6,29 @@ use lib.Dec.{ltb, leb}
 use lib.ListN.{length, take, drop}
 use Rattle.unicode.specs.Unicode.{toUtf8}
 use Rattle.number.specs.Part.{part}
-use Rattle.layout.specs.Bytes.{Asked, inFile, inUtf16, noBytes, denied, eventAsked}
+use Rattle.object.specs.Object.{objectAt}
+use Rattle.layout.specs.Bytes.{Asked, inFile, inUtf16, noBytes, denied, foundAsked}
+use Rattle.layout.specs.Listed.{isListed}
+use Rattle.layout.specs.Trailer.{Trailer, keeps, ends, lays, trailerOf}
+use Rattle.layout.specs.declared.layout.Layout.{Layout}
 use Rattle.reader.specs.State.{maxLength}
 use Rattle.reader.specs.declared.answer.Record.{Record}
 
+-- what a file gives of a record, under the sizes, the count and the table of its trailer: 17 where the table doesn't have the record's offset
+-- under its number, or where reading there doesn't give the record (R27)
+unfoldable pub askedUnder : List ℕ → Record → Layout → Asked
+askedUnder file r l =
+    cond (isListed file l (r .number) (r .offset)) (foundAsked (r .event) (objectAt file (l .refs) (r .offset))) (denied 17 [])
+
+-- a file whose trailer is refused gives no record
+unfoldable pub askedBy : List ℕ → Record → Trailer → Asked
+askedBy file r (keeps number values place) = denied 17 []
+askedBy file r (ends number values place) = denied 17 []
+askedBy file r (lays l root) = askedUnder file r l
+
 -- first 1, then 17 (R26)
 unfoldable pub askedOf : List ℕ → Record → Asked
-askedOf file r = cond (ltb maxLength (length file)) (denied 1 []) (eventAsked file (r .event) (r .offset))
+askedOf file r = cond (ltb maxLength (length file)) (denied 1 []) (askedBy file r (trailerOf file))
 
 -- an answer: a length, or a refusal with number, values and place
 pub data TextSaid : Type 0 where

@@ -1,17 +1,30 @@
 -- Both calls of the text request for a record that the file gives: with scratch enough they hand out its bytes, with less the first is refused with
--- 16. docs/FORMAT.md, rules R26 to R30.
+-- 16; and where a record of a listed object goes to. docs/FORMAT.md, rules R26 to R30.
+use mathlib.Core.Bool.{true}
 use mathlib.Core.List.{List, [], _++_}
 use mathlib.Core.Path.{_≡_, refl, sym, ap}
 use Prim.Native.Nat.{ℕ, _≤_, _<_}
 use native.Mathlib.Omega.{arith}
-use borrow.Author.Tests.{le-leb, lt-leb}
+use borrow.Author.Tests.{le-leb, lt-leb, le-ltb}
 use lib.ListN.{length, drop, length-append, length-drop}
 use lib.Seq.{take-append-seam}
 use Rattle.number.specs.Part.{part}
 use Rattle.unicode.specs.Unicode.{toUtf8}
-use Rattle.layout.specs.Bytes.{Asked, inFile, inUtf16, noBytes, denied}
+use Rattle.object.specs.Object.{objectAt}
+use Rattle.layout.specs.Bytes.{Asked, inFile, inUtf16, noBytes, denied, foundAsked}
+use Rattle.layout.specs.Listed.{isListed}
+use Rattle.layout.specs.Trailer.{lays, trailerOf}
+use Rattle.layout.specs.declared.layout.Layout.{Layout}
 use Rattle.reader.specs.Meanings.{bytesAsked}
-use Rattle.reader.specs.Request.{long, refusing, lengthSaid, scratchAfter, partSaid}
+use Rattle.reader.specs.Request.{long, refusing, askedUnder, askedBy, askedOf, lengthSaid, scratchAfter, partSaid}
+use Rattle.reader.specs.State.{maxLength}
+use Rattle.reader.specs.declared.answer.Record.{Record}
+
+-- a record of an object that the table lists goes by what is read there
+pub asked-there : (file : List ℕ) (l : Layout) (root : ℕ) → length file ≤ maxLength → trailerOf file ≡ lays l root → (r : Record) → isListed file l (r .number) (r .offset) ≡ true
+    → askedOf file r ≡ foundAsked (r .event) (objectAt file (l .refs) (r .offset))
+unfolding askedOf askedBy askedUnder
+asked-there file l root short says r listed = rw (le-ltb _ _ short, says, listed)
 
 -- a record is given, and all its bytes stand in the file
 abbrev pub Present : List ℕ → Asked → Type 0

@@ -49,7 +49,7 @@ passed r place = cond (eqb (r .depth) 0) endedReader (moved r place (r .depth) (
 
 -- a container was read at a place: it is the innermost now
 unfoldable pub entered : Reader → ℕ → ℕ → ℕ → Reader
-entered r object length place = moved r place (r .depth + 1) (set (advanced r) (r .depth) (newFrame object length))
+entered r object length place = moved r place (r .depth + 1) (set (advanced r) (r .depth) (newFrame object length place))
 
 -- the innermost container is closed and its frame cleared; with the last one the reader has ended
 unfoldable pub closed : Reader → Reader

@@ -3,9 +3,10 @@ use crate::refusal::Refusal;
 use crate::state::Reader;
 use event::Event;
 
-// An event, and the offset of the object that it comes from; for an end that of the container it closes.
+// An event, and the number and the offset of the object that it comes from; for an end those of the container it closes.
 pub struct Record {
     pub event: Event,
+    pub number: u32,
     pub offset: u64,
 }
 

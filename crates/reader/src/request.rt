@@ -6,9 +6,10 @@ use crate::state::Reader;
 use event::Event;
 use event::Length;
 use event::same::is_same;
-use number::width::Width;
-use object::container::Container;
-use object::container::container_at;
+use layout::layout::Layout;
+use layout::layout::is_listed;
+use layout::trailer::TrailerRead;
+use layout::trailer::trailer_of;
 use object::read::Object;
 use object::read::Part;
 use object::read::object_at;
@@ -17,12 +18,10 @@ use unicode::utf16::Utf8Length;
 use unicode::utf16::utf8_length;
 use unicode::utf16::utf16_to_utf8;
 ghost use mathlib.Core.Path.{_≡_};
-ghost use Rattle.layout.specs.Bytes.{dataAsked, textAsked, givenIf, scalarAsked, startAsked, endAsked};
-ghost use Rattle.reader.specs.Request.{askedOf, lengthSaid, scratchAfter, partSaid};
+ghost use Rattle.layout.specs.Bytes.{dataAsked, textAsked, givenIf, scalarAsked, startAsked, endAsked, foundAsked};
+ghost use Rattle.reader.specs.Request.{askedUnder, askedOf, lengthSaid, scratchAfter, partSaid};
 ghost use Rattle.reader.specs.Said.{textSaid, askedSaid};
-ghost use Rattle.object.specs.Container.{containerAt};
-ghost use Rattle.object.specs.Object.{objectAt};
-ghost use Rattle.number.specs.declared.width.Width.the-variants.{One};
+ghost use Rattle.object.specs.Found.{foundOf};
 
 // How many bytes a record's data or text has, 0 for any other record; a refusal comes with its place.
 pub enum TextLength {
@@ -86,84 +85,102 @@ pub fn text_part<'a>(file: &'a [u8], scratch: &'a [u8], handed: Record) -> &'a [
     }
 }
 
-// What reading at a record's offset gives, where it is what the record says.
+// What the file gives of a record: 1 first, then 17.
 fn asked_for(file: &[u8], handed: Record) -> Asked
     ensures { λ r. ⌜ askedSaid r ≡ askedOf (now (file .entry)) handed ⌝ }
 {
     if Reader::MAX_LENGTH < file.len() {
         return Asked::Denied(Refusal::File(layout::refusal::Refusal::TooLong));
     }
-    let event = handed.event;
-    let at = handed.offset as usize;
-    match event {
-        Event::Data => data_at(file, at),
-        Event::String => text_at(file, at),
-        Event::StartArray(_) => start_at(file, at, event),
-        Event::StartDictionary(_) => start_at(file, at, event),
-        Event::EndCollection => end_at(file, at),
-        Event::Boolean(_) => scalar_at(file, at, event),
-        Event::Date(_) => scalar_at(file, at, event),
-        Event::Integer(_) => scalar_at(file, at, event),
-        Event::Real(_) => scalar_at(file, at, event),
-        Event::Nan(_) => scalar_at(file, at, event),
-        Event::Uid(_) => scalar_at(file, at, event),
+    match trailer_of(file) {
+        TrailerRead::Lays(layout, _) => asked_under(file, layout, handed),
+        _ => Asked::Denied(Refusal::WrongFile),
     }
 }
 
-fn data_at(file: &[u8], at: usize) -> Asked
-    ensures { λ r. ⌜ askedSaid r ≡ dataAsked (objectAt (now (file .entry)) One at) ⌝ }
+// The same once the trailer is read: the table has the record's offset under its number, and reading there gives the record.
+fn asked_under(file: &[u8], layout: Layout, handed: Record) -> Asked
+    ensures { λ r. ⌜ askedSaid r ≡ askedUnder (now (file .entry)) handed layout ⌝ }
 {
-    match object_at(file, Width::One, at) {
+    if is_listed(file, layout, handed.number, handed.offset) {
+        let refs = layout.refs;
+        let event = handed.event;
+        return asked_as(event, object_at(file, refs, handed.offset as usize));
+    }
+    Asked::Denied(Refusal::WrongFile)
+}
+
+// An event's record, by what is read at its offset.
+fn asked_as(event: Event, object: Object) -> Asked
+    ensures { λ r. ⌜ askedSaid r ≡ foundAsked event (foundOf object) ⌝ }
+{
+    match event {
+        Event::Data => data_in(object),
+        Event::String => text_in(object),
+        Event::StartArray(_) => start_in(object, event),
+        Event::StartDictionary(_) => start_in(object, event),
+        Event::EndCollection => end_in(object),
+        Event::Boolean(_) => scalar_in(object, event),
+        Event::Date(_) => scalar_in(object, event),
+        Event::Integer(_) => scalar_in(object, event),
+        Event::Real(_) => scalar_in(object, event),
+        Event::Nan(_) => scalar_in(object, event),
+        Event::Uid(_) => scalar_in(object, event),
+    }
+}
+
+fn data_in(object: Object) -> Asked
+    ensures { λ r. ⌜ askedSaid r ≡ dataAsked (foundOf object) ⌝ }
+{
+    match object {
         Object::Data(part) => Asked::InFile(part),
         _ => Asked::Denied(Refusal::WrongFile),
     }
 }
 
-fn text_at(file: &[u8], at: usize) -> Asked
-    ensures { λ r. ⌜ askedSaid r ≡ textAsked (objectAt (now (file .entry)) One at) ⌝ }
+fn text_in(object: Object) -> Asked
+    ensures { λ r. ⌜ askedSaid r ≡ textAsked (foundOf object) ⌝ }
 {
-    match object_at(file, Width::One, at) {
+    match object {
         Object::Utf8(part) => Asked::InFile(part),
         Object::Utf16(part) => Asked::InUtf16(part),
         _ => Asked::Denied(Refusal::WrongFile),
     }
 }
 
-// A scalar without bytes: reading gives that event.
-fn scalar_at(file: &[u8], at: usize, event: Event) -> Asked
-    ensures { λ r. ⌜ askedSaid r ≡ scalarAsked event (objectAt (now (file .entry)) One at) ⌝ }
+// A scalar without bytes: it is that event.
+fn scalar_in(object: Object, event: Event) -> Asked
+    ensures { λ r. ⌜ askedSaid r ≡ scalarAsked event (foundOf object) ⌝ }
 {
-    match object_at(file, Width::One, at) {
+    match object {
         Object::Scalar(found) => given_if(is_same(event, found)),
         _ => Asked::Denied(Refusal::WrongFile),
     }
 }
 
-// A container's start: one of that kind and length stands there.
-fn start_at(file: &[u8], at: usize, event: Event) -> Asked
-    ensures { λ r. ⌜ askedSaid r ≡ startAsked event (containerAt (now (file .entry)) at) ⌝ }
+// A container's start: it has that kind and length.
+fn start_in(object: Object, event: Event) -> Asked
+    ensures { λ r. ⌜ askedSaid r ≡ startAsked event (foundOf object) ⌝ }
 {
-    match container_at(file, at) {
-        Container::NoContainer => Asked::Denied(Refusal::WrongFile),
-        Container::Array(extent) => {
-            let start = Event::StartArray(Length::Given(extent.count));
-            given_if(is_same(event, start))
+    match object {
+        Object::Array(length) => {
+            given_if(is_same(event, Event::StartArray(Length::Given(length))))
         }
-        Container::Dictionary(extent) => {
-            let start = Event::StartDictionary(Length::Given(extent.count));
-            given_if(is_same(event, start))
+        Object::Dictionary(length) => {
+            given_if(is_same(event, Event::StartDictionary(Length::Given(length))))
         }
+        _ => Asked::Denied(Refusal::WrongFile),
     }
 }
 
-// A container's end: one stands there.
-fn end_at(file: &[u8], at: usize) -> Asked
-    ensures { λ r. ⌜ askedSaid r ≡ endAsked (containerAt (now (file .entry)) at) ⌝ }
+// A container's end: there is one.
+fn end_in(object: Object) -> Asked
+    ensures { λ r. ⌜ askedSaid r ≡ endAsked (foundOf object) ⌝ }
 {
-    match container_at(file, at) {
-        Container::NoContainer => Asked::Denied(Refusal::WrongFile),
-        Container::Array(_) => Asked::NoBytes,
-        Container::Dictionary(_) => Asked::NoBytes,
+    match object {
+        Object::Array(_) => Asked::NoBytes,
+        Object::Dictionary(_) => Asked::NoBytes,
+        _ => Asked::Denied(Refusal::WrongFile),
     }
 }
 

@@ -24,7 +24,7 @@ ghost use Prim.Native.Nat.{_≤_};
 ghost use lib.ListN.{length};
 ghost use Rattle.layout.specs.Layout.{lookOf};
 ghost use Rattle.layout.specs.Trailer.{trailerIn};
-ghost use Rattle.reader.specs.Machine.{step, eventAt, refused, refuse, arrive};
+ghost use Rattle.reader.specs.Machine.{step, origin, eventAt, refused, refuse, arrive};
 ghost use Rattle.reader.specs.Next.{laidOut, begin as beginSaid, nextOf};
 ghost use Rattle.reader.specs.Said.{numberOf, valuesOf, said, stepSaid};
 ghost use Rattle.reader.specs.State.{maxLength};
@@ -40,10 +40,14 @@ fn ended(refusal: Refusal, place: u64) -> Stepped
 }
 
 // An event that is handed out.
-fn handed(event: Event, offset: u64) -> Answer
-    ensures { λ a. ⌜ said a ≡ eventAt event offset ⌝ }
+fn handed(event: Event, number: u32, offset: u64) -> Answer
+    ensures { λ a. ⌜ said a ≡ eventAt event (origin number offset) ⌝ }
 {
-    Answer::Handed(Record { event, offset })
+    Answer::Handed(Record {
+        event,
+        number,
+        offset,
+    })
 }
 
 impl Reader {
@@ -89,17 +93,18 @@ impl Reader {
                 return self.kept(Refusal::WrongFile, 0);
             }
             Due::Close(offset) => {
+                let number = self.frames[top].object;
                 if top == 0 {
                     return Stepped {
                         reader: Reader::ENDED,
-                        answer: handed(Event::EndCollection, offset),
+                        answer: handed(Event::EndCollection, number, offset),
                     };
                 }
                 self.frames[top] = Frame::NONE;
                 self.depth = top;
                 return Stepped {
                     reader: self,
-                    answer: handed(Event::EndCollection, offset),
+                    answer: handed(Event::EndCollection, number, offset),
                 };
             }
             Due::Member(object) => match look_up(file, layout, object, self.place) {
@@ -114,7 +119,7 @@ impl Reader {
                     self.place = offset;
                     return Stepped {
                         reader: self,
-                        answer: handed(event, offset),
+                        answer: handed(event, object as u32, offset),
                     };
                 }
                 Look::Container(shape, length, offset) => {
@@ -130,12 +135,13 @@ impl Reader {
                         object: number,
                         position: 0,
                         length: length as u32,
+                        offset: offset as u32,
                     };
                     self.depth = depth + 1;
                     self.place = offset;
                     return Stepped {
                         reader: self,
-                        answer: handed(start_of(shape, length), offset),
+                        answer: handed(start_of(shape, length), number, offset),
                     };
                 }
             },
@@ -174,7 +180,7 @@ fn at_root(file: &[u8], layout: Layout, root: u64) -> Stepped
         Look::Refused(refusal, place) => ended(Refusal::File(refusal), place),
         Look::Scalar(event, _, offset) => Stepped {
             reader: Reader::ENDED,
-            answer: handed(event, offset),
+            answer: handed(event, root as u32, offset),
         },
         Look::Container(shape, length, offset) => {
             let mut reader = laid_out(file, layout);
@@ -182,12 +188,13 @@ fn at_root(file: &[u8], layout: Layout, root: u64) -> Stepped
                 object: root as u32,
                 position: 0,
                 length: length as u32,
+                offset: offset as u32,
             };
             reader.depth = 1;
             reader.place = offset;
             Stepped {
                 reader,
-                answer: handed(start_of(shape, length), offset),
+                answer: handed(start_of(shape, length), root as u32, offset),
             }
         }
     }

@@ -9,6 +9,7 @@ use hexlines::line::next;
 use hexlines::line::number;
 use layout::frame::Frame;
 use libc::STDOUT_FILENO;
+use line::piece::Mark;
 use number::signed::signed_of;
 use reader::answer::Answer;
 use reader::answer::Record;
@@ -97,32 +98,35 @@ fn state_of(s: &[u8], fresh: usize) -> Reader {
     while i < Reader::MAX_OPEN {
         let position = after(s, at);
         let length = after(s, position);
+        let offset = after(s, length);
         reader.frames[i] = Frame {
             object: word(s, at),
             position: word(s, position),
             length: word(s, length),
+            offset: word(s, offset),
         };
-        at = after(s, length);
+        at = after(s, offset);
         i += 1;
     }
     reader
 }
 
-// One call, its answer with the record's offset, and the state afterwards.
+// One call, its answer with the record's number and offset, and the state afterwards.
 fn say_step(file: &[u8], scratch: &mut [u8], out: &mut [u8], reader: Reader) {
     let stepped = reader.next(file);
     let answer = stepped.answer;
-    say_offset(answer);
+    say_origin(answer);
     say_answer(STDOUT_FILENO, file, scratch, out, answer);
     let after = stepped.reader;
     say_state(after);
 }
 
-fn say_offset(answer: Answer) {
+fn say_origin(answer: Answer) {
     let Answer::Handed(handed) = answer else {
         return;
     };
     io::write_all(STDOUT_FILENO, b"at ");
+    say_number(handed.number as u64, b" ");
     say_number(handed.offset, b" ");
 }
 
@@ -157,7 +161,8 @@ fn say_frames(reader: Reader) {
         let frame = reader.frames[i];
         say_number(frame.object as u64, b":");
         say_number(frame.position as u64, b":");
-        say_number(frame.length as u64, b",");
+        say_number(frame.length as u64, b":");
+        say_number(frame.offset as u64, b",");
         i += 1;
     }
 }
@@ -177,18 +182,23 @@ fn shown_frames(reader: Reader) -> usize
         if frame.length != 0 {
             return n;
         }
+        if frame.offset != 0 {
+            return n;
+        }
         n -= 1;
     }
     0
 }
 
-// A record's fields are the scratch's length, the kind, its value and the offset. The answer, the scratch afterwards, and the part.
+// A record's fields are the scratch's length, the kind, its value, the number and the offset. The answer, the scratch afterwards, and the part.
 fn say_request(file: &[u8], scratch: &mut [u8], out: &mut [u8], s: &[u8], length: usize) {
     let kind = after(s, length);
     let value = after(s, kind);
-    let offset = after(s, value);
+    let object = after(s, value);
+    let offset = after(s, object);
     let handed = Record {
         event: event_of(number(s, kind), number(s, value)),
+        number: word(s, object),
         offset: number(s, offset),
     };
     blank(scratch);
@@ -219,7 +229,7 @@ fn say_length(out: &mut [u8], length: TextLength) {
 }
 
 fn say_bytes(out: &mut [u8], bytes: &[u8]) {
-    let put = line::put::put_event(out, 0, Event::Data, bytes);
+    let put = line::put::put_event(out, 0, Event::Data, bytes, Mark::Nothing);
     say::say_put(STDOUT_FILENO, out, put);
 }
 

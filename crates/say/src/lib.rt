@@ -3,6 +3,7 @@
 pub mod list;
 
 use digits::Put;
+use line::piece::Mark;
 use line::put::Fixed;
 use line::put::put_event;
 use line::put::put_fixed;
@@ -12,12 +13,13 @@ use reader::answer::Record;
 use reader::refusal::number_of;
 use reader::request::text_length;
 use reader::request::text_part;
+ghost use mathlib.Core.Bool.{false};
 ghost use mathlib.Core.Path.{_≡_};
 ghost use Rattle.digits.specs.Put.{putEnd, putInto};
 ghost use Rattle.line.specs.Line.{refusalLine};
 ghost use Rattle.line.specs.Put.{fixedLine};
 ghost use Rattle.reader.specs.Request.{askedOf, scratchAfter};
-ghost use Rattle.say.specs.Say.{filledLine, recordLine, answerLine, answerScratch};
+ghost use Rattle.say.specs.Say.{markFor, filledLine, recordLine, answerLine, answerScratch};
 
 pub fn say_answer(to: i32, file: &[u8], scratch: &mut [u8], out: &mut [u8], answer: Answer)
     ensures { λ _. ⌜ now (scratch .exit) ≡ answerScratch (now (file .entry)) (now (scratch .entry)) answer ⌝ }
@@ -32,20 +34,27 @@ pub fn say_answer(to: i32, file: &[u8], scratch: &mut [u8], out: &mut [u8], answ
 
 pub fn say_event(to: i32, file: &[u8], scratch: &mut [u8], out: &mut [u8], handed: Record)
     ensures { λ _. ⌜ now (scratch .exit) ≡ scratchAfter (now (file .entry)) (now (scratch .entry)) (askedOf (now (file .entry)) handed) ⌝ }
-    ensures { λ _. ⌜ now (out .exit) ≡ putInto (now (out .entry)) 0 (recordLine (now (file .entry)) (now (scratch .entry)) handed) ⌝ }
+    ensures { λ _. ⌜ now (out .exit) ≡ putInto (now (out .entry)) 0 (recordLine false (now (file .entry)) (now (scratch .entry)) handed) ⌝ }
 {
-    let put = put_record(file, scratch, out, handed);
+    let put = put_record(file, scratch, out, handed, false);
     say_put(to, out, put);
 }
 
-// The line of a record, at the start of the memory. Its bytes are asked for first; there are none where the request is refused.
-pub fn put_record(file: &[u8], scratch: &mut [u8], out: &mut [u8], handed: Record) -> Put
-    ensures { λ r. ⌜ r ≡ putEnd (now (out .entry)) 0 (recordLine (now (file .entry)) (now (scratch .entry)) handed) ⌝ }
+// The line of a record, at the start of the memory, in a trace or in a listing. Its bytes are asked for first; there are none where the request is
+// refused.
+pub fn put_record(
+    file: &[u8],
+    scratch: &mut [u8],
+    out: &mut [u8],
+    handed: Record,
+    traced: bool,
+) -> Put
+    ensures { λ r. ⌜ r ≡ putEnd (now (out .entry)) 0 (recordLine traced (now (file .entry)) (now (scratch .entry)) handed) ⌝ }
     ensures { λ _. ⌜ now (scratch .exit) ≡ scratchAfter (now (file .entry)) (now (scratch .entry)) (askedOf (now (file .entry)) handed) ⌝ }
-    ensures { λ _. ⌜ now (out .exit) ≡ putInto (now (out .entry)) 0 (recordLine (now (file .entry)) (now (scratch .entry)) handed) ⌝ }
+    ensures { λ _. ⌜ now (out .exit) ≡ putInto (now (out .entry)) 0 (recordLine traced (now (file .entry)) (now (scratch .entry)) handed) ⌝ }
 {
     text_length(file, scratch, handed);
-    put_filled(file, scratch, out, handed)
+    put_filled(file, scratch, out, handed, traced)
 }
 
 // The line of a record whose bytes have been asked for.
@@ -54,12 +63,25 @@ pub(crate) fn put_filled<'a>(
     scratch: &'a [u8],
     out: &mut [u8],
     handed: Record,
+    traced: bool,
 ) -> Put
-    ensures { λ r. ⌜ r ≡ putEnd (now (out .entry)) 0 (filledLine (now (file .entry)) (now (scratch .entry)) handed) ⌝ }
-    ensures { λ _. ⌜ now (out .exit) ≡ putInto (now (out .entry)) 0 (filledLine (now (file .entry)) (now (scratch .entry)) handed) ⌝ }
+    ensures { λ r. ⌜ r ≡ putEnd (now (out .entry)) 0 (filledLine traced (now (file .entry)) (now (scratch .entry)) handed) ⌝ }
+    ensures { λ _. ⌜ now (out .exit) ≡ putInto (now (out .entry)) 0 (filledLine traced (now (file .entry)) (now (scratch .entry)) handed) ⌝ }
 {
     let event = handed.event;
-    put_event(out, 0, event, text_part(file, scratch, handed))
+    let mark = mark_of(handed, traced);
+    put_event(out, 0, event, text_part(file, scratch, handed), mark)
+}
+
+fn mark_of(handed: Record, traced: bool) -> Mark
+    ensures { λ r. ⌜ r ≡ markFor traced handed ⌝ }
+{
+    if traced {
+        let number = handed.number as u64;
+        Mark::Origin(number, handed.offset)
+    } else {
+        Mark::Nothing
+    }
 }
 
 pub fn say_fixed(to: i32, out: &mut [u8], fixed: Fixed)

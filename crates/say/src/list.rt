@@ -1,4 +1,5 @@
-// The listing: one line for each event, until the end, a refusal, or the last event that is listed.
+// The listing, and the trace, whose lines say where each event comes from: one line for each event, until the end, a refusal, or the last event
+// that is listed.
 use crate::put_filled;
 use crate::say_answer;
 use crate::say_fixed;
@@ -15,14 +16,21 @@ use reader::state::Reader;
 // After so many events the listing stops.
 const EVENTS: u32 = 65536;
 
-// The listing of what a descriptor hands out, written to another. Input that is longer than the memory for it is refused with 1.
-pub fn list_input(from: i32, to: i32, input: &mut [u8], scratch: &mut [u8], line: &mut [u8]) {
+// The listing or the trace of what a descriptor hands out, written to another. Input that is longer than the memory for it is refused with 1.
+pub fn list_input(
+    from: i32,
+    to: i32,
+    input: &mut [u8],
+    scratch: &mut [u8],
+    line: &mut [u8],
+    traced: bool,
+) {
     let n = io::read_full(from, input);
     if has_more(from) {
         too_long(to, line);
         return;
     }
-    list(to, &input[..n], scratch, line);
+    list(to, &input[..n], scratch, line, traced);
 }
 
 // Whether the input goes on behind what was read.
@@ -37,7 +45,7 @@ fn too_long(to: i32, line: &mut [u8]) {
     say_refusal(to, line, 1, 0);
 }
 
-fn list(to: i32, file: &[u8], scratch: &mut [u8], line: &mut [u8]) {
+fn list(to: i32, file: &[u8], scratch: &mut [u8], line: &mut [u8], traced: bool) {
     say_fixed(to, line, Fixed::Events);
     let mut reader = Reader::FRESH;
     let mut left: u32 = EVENTS;
@@ -53,7 +61,7 @@ fn list(to: i32, file: &[u8], scratch: &mut [u8], line: &mut [u8]) {
         if lacks_room(to, file, scratch, line, handed) {
             return;
         }
-        let put = put_filled(file, scratch, line, handed);
+        let put = put_filled(file, scratch, line, handed, traced);
         say_put(to, line, put);
         left -= 1;
     }

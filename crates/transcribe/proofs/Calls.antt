@@ -10,7 +10,7 @@ use Rattle.layout.specs.Layout.{lookOf}
 use Rattle.layout.specs.Bytes.{hasBytes}
 use Rattle.layout.specs.Trailer.{keeps, ends, lays, trailerIn}
 use Rattle.layout.specs.declared.layout.Layout.{Layout}
-use Rattle.reader.specs.Machine.{Step, recordOf, eventAt, step, arrive}
+use Rattle.reader.specs.Machine.{Step, Origin, eventAt, step, arrive}
 use Rattle.reader.specs.Machine as reader
 use Rattle.reader.specs.Next.{laidOut, begin}
 use Rattle.reader.specs.NextLaws.{next-begin, next-ended}
@@ -30,7 +30,7 @@ module _ (n : ℕ) (file scratch tape : List ℕ) (held : ℕ) (some : 0 < n) (x
   unfolding bySaid
   call-refused number values place e = onward-turn n file scratch tape held x some ∙ rw e
 
-  module _ (e : Event) (offset : ℕ) (answers : x .answer ≡ eventAt e offset) (y : Noted) (t s : List ℕ) (notes : noting y t s ≡ noteOf file scratch tape held (recordOf e offset)) where
+  module _ (e : Event) (o : Origin) (answers : x .answer ≡ eventAt e o) (y : Noted) (t s : List ℕ) (notes : noting y t s ≡ noteOf file scratch tape held e (o .offset)) where
     call-noted : onward n file scratch tape held x ≡ byNoted (λ a t h q. runOf (n - 1) file a t h q) held (x .state) s t y
     unfolding bySaid byNote
     call-noted = onward-turn n file scratch tape held x some ∙ rw (answers, ← notes)
@@ -45,7 +45,7 @@ module _ (n : ℕ) (file scratch tape : List ℕ) (held : ℕ) (some : 0 < n) (x
     call-failed (failure.NoRoomForTape p) k = call-noted ∙ rw k
 
 -- an event without bytes, noted
-pub plain-noted : (file scratch tape t : List ℕ) (held : ℕ) (e : Event) (offset : ℕ) (y : Noted) → hasBytes e ≡ false → y ≡ fromTape (appendOf tape held (meaningOf e [])) → t ≡ appendTo tape held (meaningOf e []) → noting y t scratch ≡ noteOf file scratch tape held (recordOf e offset)
+pub plain-noted : (file scratch tape t : List ℕ) (held : ℕ) (e : Event) (offset : ℕ) (y : Noted) → hasBytes e ≡ false → y ≡ fromTape (appendOf tape held (meaningOf e [])) → t ≡ appendTo tape held (meaningOf e []) → noting y t scratch ≡ noteOf file scratch tape held e offset
 unfolding noteOf putNote
 plain-noted file scratch tape t held e offset y b p q = rw (b, p, q)
 

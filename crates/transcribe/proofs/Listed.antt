@@ -68,10 +68,10 @@ close-listed depth top frames numbers le h =
     take-take top depth numbers le
 
 -- another one opens
-pub enter-listed : (depth top object k : ℕ) (frames : List Frame) (numbers : List ℕ) → depth < length frames → depth < length numbers → Listed depth frames numbers → Listed (depth + 1) (set (set frames top (nextIn (getD frames top noFrame))) depth (newFrame object k)) (set numbers depth object)
-enter-listed depth top object k frames numbers f g h =
+pub enter-listed : (depth top object k offset : ℕ) (frames : List Frame) (numbers : List ℕ) → depth < length frames → depth < length numbers → Listed depth frames numbers → Listed (depth + 1) (set (set frames top (nextIn (getD frames top noFrame))) depth (newFrame object k offset)) (set numbers depth object)
+enter-listed depth top object k offset frames numbers f g h =
     let l : List Frame = set frames top (nextIn (getD frames top noFrame)) in
-    rw (add-one, take-suc-set numbers depth object g, take-suc-set l depth (newFrame object k) (rw length-set f), map-last (take depth l), onward-listed depth top frames numbers h)
+    rw (add-one, take-suc-set numbers depth object g, take-suc-set l depth (newFrame object k offset) (rw length-set f), map-last (take depth l), onward-listed depth top frames numbers h)
 
 -- a number that isn't among others isn't among the first of them, nor where another one stands behind them
 among-first : (k : ℕ) (l : List ℕ) (n : ℕ) → among l n ≡ false → among (take k l) n ≡ false

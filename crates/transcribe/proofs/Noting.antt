@@ -4,8 +4,7 @@ use mathlib.Core.List.{List, [], _∷_, _++_}
 use mathlib.Core.Path.{_≡_, refl, sym, ap, _∙_}
 use Prim.Native.Nat.{ℕ, _+_, _-_, _≤_}
 use native.Mathlib.Omega.{arith}
-use borrow.Author.Tests.{le-ltb}
-use lib.Dec.{ltb, leb}
+use lib.Dec.{leb}
 use lib.ListN.{length, take, drop, length-append}
 use lib.Seq.{take-append-seam}
 use Rattle.number.specs.BeLaws.{Bytes}
@@ -26,11 +25,9 @@ use Rattle.layout.specs.Looked.{Shape, array, dictionary, startOf}
 use Rattle.layout.specs.Said.{spanSaid}
 use Rattle.layout.specs.declared.lookup.Span.{Span}
 use Rattle.layout.specs.declared.lookup.Span.the-variants.{InFile, InUtf16, NoBytes}
-use Rattle.reader.specs.Machine.{recordOf}
 use Rattle.reader.specs.Meanings.{meaningAt, bytesAsked}
-use Rattle.reader.specs.Request.{askedOf, long, refusing, lengthSaid, scratchAfter}
-use Rattle.reader.specs.State.{maxLength}
-use Rattle.reader.proofs.Inside.{AskedIn, asked-in}
+use Rattle.reader.specs.Request.{long, refusing, lengthSaid, scratchAfter}
+use Rattle.reader.proofs.Inside.{AskedIn, event-in}
 use Rattle.reader.proofs.Utf16.{is-written, no-room, is-text, filled}
 use Rattle.tape.specs.AppendLaws.{put-event}
 use Rattle.tape.specs.Append.{Said, fits, putOf, putTo, appendOf, appendTo}
@@ -108,9 +105,6 @@ module _ (file scratch : List ℕ) (start n offset : ℕ) where
       go false f = f
 
 module _ {file : List ℕ} {e : Event} {span : Span} {offset : ℕ} (w : Notable file e span offset) where
-  short : ltb maxLength (length file) ≡ false
-  short = le-ltb _ _ (w .short)
-
   stands : {a : Asked} → spanSaid span ≡ a → eventAsked file e offset ≡ a
   stands h = sym (w .stands) ∙ h
 
@@ -118,8 +112,7 @@ module _ {file : List ℕ} {e : Event} {span : Span} {offset : ℕ} (w : Notable
   given h = rw (stands h) at (w .given)
 
   inside : {a : Asked} → spanSaid span ≡ a → AskedIn file a
-  unfolding askedOf
-  inside h = rw (short, stands h) at (asked-in file (recordOf e offset))
+  inside h = rw (stands h) at (event-in file e offset)
 
   -- without bytes
   module _ (h : span ≡ NoBytes) where
@@ -127,7 +120,7 @@ module _ {file : List ℕ} {e : Event} {span : Span} {offset : ℕ} (w : Notable
     unfolding spanSaid
     is-bare = given {a = noBytes} (rw h)
 
-    pub plain-noted : (scratch tape : List ℕ) (held : ℕ) (y : Noted) (t : List ℕ) → y ≡ fromTape (appendOf tape held (meaningOf e [])) → t ≡ appendTo tape held (meaningOf e []) → noting y t scratch ≡ noteOf file scratch tape held (recordOf e offset)
+    pub plain-noted : (scratch tape : List ℕ) (held : ℕ) (y : Noted) (t : List ℕ) → y ≡ fromTape (appendOf tape held (meaningOf e [])) → t ≡ appendTo tape held (meaningOf e []) → noting y t scratch ≡ noteOf file scratch tape held e offset
     plain-noted scratch tape held y t = noted-plain file scratch tape t held e offset y (bare-plain e is-bare)
 
   -- bytes of the file
@@ -146,10 +139,10 @@ module _ {file : List ℕ} {e : Event} {span : Span} {offset : ℕ} (w : Notable
     pub file-has : hasBytes e ≡ true
     file-has = given in-file .0
 
-    pub file-noted : (scratch tape : List ℕ) (held : ℕ) (y : Noted) (t : List ℕ) {n : ℕ} → Kind e n → y ≡ fromTape (putOf tape held (n ∷ (seven (length (lent file p)) ++ lent file p))) → t ≡ putTo tape held (n ∷ (seven (length (lent file p)) ++ lent file p)) → noting y t scratch ≡ noteOf file scratch tape held (recordOf e offset)
+    pub file-noted : (scratch tape : List ℕ) (held : ℕ) (y : Noted) (t : List ℕ) {n : ℕ} → Kind e n → y ≡ fromTape (putOf tape held (n ∷ (seven (length (lent file p)) ++ lent file p))) → t ≡ putTo tape held (n ∷ (seven (length (lent file p)) ++ lent file p)) → noting y t scratch ≡ noteOf file scratch tape held e offset
     file-noted scratch tape held y t kinds u v =
         put-is scratch tape t held _ y (rw (lent-is file p) (given in-file .1)) (u ∙ ap (λ (b : List ℕ). fromTape (putOf tape held b)) (kinds (lent file p))) (v ∙ ap (putTo tape held) (kinds (lent file p))) ∙
-        rw file-means (sym (note-file file scratch tape held e offset short (given in-file .0) (p .start) (p .length) (stands in-file)))
+        rw file-means (sym (note-file file scratch tape held e offset (given in-file .0) (p .start) (p .length) (stands in-file)))
 
   -- bytes of the file that are UTF-16
   module _ {p : Part} (h : span ≡ InUtf16 p) where
@@ -180,11 +173,11 @@ module _ {file : List ℕ} {e : Event} {span : Span} {offset : ℕ} (w : Notable
         scratch-is = after ∙ filled file scratch (p .start) (p .length) is-utf16
 
         -- it is too long for the scratch
-        pub long-noted : x ≡ NoRoom → (tape : List ℕ) (held : ℕ) → noting (note.refused 16 [] offset) tape s ≡ noteOf file scratch tape held (recordOf e offset)
+        pub long-noted : x ≡ NoRoom → (tape : List ℕ) (held : ℕ) → noting (note.refused 16 [] offset) tape s ≡ noteOf file scratch tape held e offset
         unfolding scratchAfter
         long-noted z tape held =
             let f = lacks-is file scratch (p .start) (p .length) offset (no-room file scratch (p .start) (p .length) is-utf16 offset x changed z) in
-            rw (scratch-is, f) (sym (note-long file scratch tape held e offset short utf16-has (p .start) (p .length) (stands in-utf16) f))
+            rw (scratch-is, f) (sym (note-long file scratch tape held e offset utf16-has (p .start) (p .length) (stands in-utf16) f))
 
         -- or stands at its start
         module _ {k : ℕ} (z : x ≡ Written k) where
@@ -202,8 +195,8 @@ module _ {file : List ℕ} {e : Event} {span : Span} {offset : ℕ} (w : Notable
           unfolding meaningAt bytesAsked
           utf16-means = rw (filled-is, ← fitting .1, take-append-seam, stands in-utf16)
 
-          pub utf16-noted : Bytes file → (tape : List ℕ) (held : ℕ) (y : Noted) (t : List ℕ) {n : ℕ} → Kind e n → y ≡ fromTape (putOf tape held (n ∷ (seven (length (take k s)) ++ take k s))) → t ≡ putTo tape held (n ∷ (seven (length (take k s)) ++ take k s)) → noting y t s ≡ noteOf file scratch tape held (recordOf e offset)
+          pub utf16-noted : Bytes file → (tape : List ℕ) (held : ℕ) (y : Noted) (t : List ℕ) {n : ℕ} → Kind e n → y ≡ fromTape (putOf tape held (n ∷ (seven (length (take k s)) ++ take k s))) → t ≡ putTo tape held (n ∷ (seven (length (take k s)) ++ take k s)) → noting y t s ≡ noteOf file scratch tape held e offset
           unfolding meaningAt
           utf16-noted b tape held y t kinds u v =
               put-is s tape t held _ y (rw utf16-means (given-allowed file b e (eventAsked file e offset) (w .given))) (u ∙ ap (λ (b : List ℕ). fromTape (putOf tape held b)) (kinds (take k s))) (v ∙ ap (putTo tape held) (kinds (take k s))) ∙
-              rw (utf16-means, filled-is) (sym (note-changed file scratch tape held e offset short utf16-has (p .start) (p .length) (stands in-utf16) (fitting .0)))
+              rw (utf16-means, filled-is) (sym (note-changed file scratch tape held e offset utf16-has (p .start) (p .length) (stands in-utf16) (fitting .0)))

@@ -15,8 +15,8 @@ use Rattle.event.specs.declared.Event.{Event}
 use Rattle.event.specs.declared.Event.the-variants.{EndCollection}
 use Rattle.object.specs.Container.{containerAt}
 use Rattle.object.specs.declared.container.Container.{Container}
-use Rattle.layout.specs.Layout.{dueOf, lookOf, standsAt, sourceOf}
-use Rattle.layout.specs.LookLaws.{look-right, looked-stands}
+use Rattle.layout.specs.Layout.{dueOf, lookOf, standsIn, sourceOf}
+use Rattle.layout.specs.LookLaws.{look-right, looked-in}
 use Rattle.layout.specs.Looked.{Shape, Looked, withPlace, faulty, scalar, container, startOf}
 use Rattle.layout.specs.Bytes.{hasBytes, lookedBytes}
 use Rattle.layout.specs.LookLaws.{bare-plain}
@@ -26,11 +26,11 @@ use Rattle.layout.specs.declared.layout.Due.the-variants.{Wrong, Close, Member}
 use Rattle.layout.specs.declared.layout.Layout.{Layout}
 use Rattle.layout.specs.declared.layout.Standing.{Standing}
 use Rattle.layout.specs.declared.frame.Frame.{Frame}
-use Rattle.layout.proofs.Counts.{counted, numbered, measured}
+use Rattle.layout.proofs.Counts.{counted, numbered, measured, stands-before}
 use Rattle.layout.specs.Refusals.{fileRefusals}
 use Rattle.layout.specs.Said.{spanSaid}
 use Rattle.layout.specs.declared.lookup.Span.{Span}
-use Rattle.reader.specs.Machine.{Step, recordOf, eventAt, step, enter, arrive, follow}
+use Rattle.reader.specs.Machine.{Step, Origin, origin, eventAt, step, enter, arrive, follow}
 use Rattle.reader.specs.Machine as reader
 use Rattle.reader.specs.Next.{laidOut}
 use Rattle.reader.specs.NextLaws.{next-due, arrive-refused, arrive-missing}
@@ -48,18 +48,18 @@ use Rattle.transcribe.proofs.Listed.{Listed, listed-member, onward-list
 use Rattle.transcribe.proofs.Calls.{plain-noted, call-refused, call-kept, call-failed, run-ended}
 
 -- where the innermost of these containers stands
-abbrev pub standsIn : List ℕ → Layout → ℕ → List Frame → Standing
-standsIn file l depth frames = standsAt file l (getD frames (depth - 1) noFrame .object)
+abbrev pub innerStands : List ℕ → Layout → ℕ → List Frame → Standing
+innerStands file l depth frames = standsIn file l (getD frames (depth - 1) noFrame)
 
 -- what was looked at is that, unless nothing is open
 abbrev pub Stands : List ℕ → Layout → Standing → ℕ → List Frame → Type 0
-Stands file l standing depth frames = (depth ≡ 0 → ⊥) → standing ≡ standsIn file l depth frames
+Stands file l standing depth frames = (depth ≡ 0 → ⊥) → standing ≡ innerStands file l depth frames
 
 module _ (file : List ℕ) (l : Layout) (root : ℕ) where
   -- the call that is made with these containers open
   unfoldable pub callOf : ℕ → ℕ → List Frame → Step
   callOf place depth frames =
-      follow (sourceOf file l) (within file l place depth frames) (dueNow file l root depth (getD frames (depth - 1) noFrame) (standsIn file l depth frames))
+      follow (sourceOf file l) (within file l place depth frames) (dueNow file l root depth (getD frames (depth - 1) noFrame) (innerStands file l depth frames))
 
   -- what is left of a run then
   abbrev pub leftOf : ℕ → List ℕ → List ℕ → ℕ → ℕ → ℕ → List Frame → Run
@@ -132,7 +132,7 @@ module _ (x : Turn) where
 
   -- what noting an event answers
   abbrev pub Notes : Event → ℕ → Noted → List ℕ → List ℕ → Type 0
-  Notes e offset y t s = noting y t s ≡ noteOf (x .file) (x .scratch) (x .tape) (x .held) (recordOf e offset)
+  Notes e offset y t s = noting y t s ≡ noteOf (x .file) (x .scratch) (x .tape) (x .held) e offset
 
   -- where the run ends, and where it goes on
   abbrev pub Ends : End → ℕ → List ℕ → List ℕ → Type 0
@@ -144,12 +144,12 @@ module _ (x : Turn) where
   refuses : (number : ℕ) (values : List ℕ) (place : ℕ) → call .answer ≡ reader.refused number values place → Ends (refused number values place) (x .held) (x .tape) (x .scratch)
   refuses number values place e = sym (call-refused (x .left) (x .file) (x .scratch) (x .tape) (x .held) (x .some) call number values place e) ∙ x .is
 
-  module _ (r : Reader) (e : Event) (offset : ℕ) (answers : call ≡ step r (eventAt e offset)) (y : Noted) (t s : List ℕ) (notes : Notes e offset y t s) where
+  module _ (r : Reader) (e : Event) (o : Origin) (answers : call ≡ step r (eventAt e o)) (y : Noted) (t s : List ℕ) (notes : Notes e (o .offset) y t s) where
     fails : (f : Failure) → y ≡ failSaid f → Ends (endOf (failSaid f)) (x .held) t s
-    fails f k = sym (rw answers (call-failed (x .left) (x .file) (x .scratch) (x .tape) (x .held) (x .some) _ e offset refl y t s notes f k)) ∙ x .is
+    fails f k = sym (rw answers (call-failed (x .left) (x .file) (x .scratch) (x .tape) (x .held) (x .some) _ e o refl y t s notes f k)) ∙ x .is
 
     is-kept : (m : ℕ) → y ≡ kept m → runOf (x .left - 1) (x .file) s t m r ≡ x .whole
-    is-kept m k = sym (rw answers (call-kept (x .left) (x .file) (x .scratch) (x .tape) (x .held) (x .some) _ e offset refl y t s notes m k)) ∙ x .is
+    is-kept m k = sym (rw answers (call-kept (x .left) (x .file) (x .scratch) (x .tape) (x .held) (x .some) _ e o refl y t s notes m k)) ∙ x .is
 
     -- the reader has ended
     finishes : r ≡ endedReader → (m : ℕ) → y ≡ kept m → Ends (finishedOf (x .left - 1)) m t s
@@ -175,7 +175,7 @@ module _ (x : Turn) where
 
   -- the innermost container ends
   module _ (offset : ℕ) (d : due ≡ Close offset) (y : Noted) (t : List ℕ) (notes : y ≡ fromTape (appendOf (x .tape) (x .held) (meaningOf EndCollection []))) (puts : t ≡ appendTo (x .tape) (x .held) (meaningOf EndCollection [])) where
-    call-close : call ≡ step (closed reads) (eventAt EndCollection offset)
+    call-close : call ≡ step (closed reads) (eventAt EndCollection (origin (innermost reads .object) offset))
     unfolding follow
     call-close = rw (call-due, d)
 
@@ -189,19 +189,19 @@ module _ (x : Turn) where
     some-open e = let z : _≡_ {A = ℕ} 0 1 = cc in omega arith
 
     pub close-fails : (f : Failure) → y ≡ failSaid f → Ends (endOf (failSaid f)) (x .held) t (x .scratch)
-    close-fails = fails (closed reads) EndCollection offset call-close y t (x .scratch) noted-close
+    close-fails = fails (closed reads) EndCollection (origin (innermost reads .object) offset) call-close y t (x .scratch) noted-close
 
     pub close-finishes : x .top ≡ 0 → (m : ℕ) → y ≡ kept m → Ends (finishedOf (x .left - 1)) m t (x .scratch)
     unfolding closed within
     close-finishes e =
         let z : x .depth ≡ 1 = omega (arith, x .at, some-open) in
-        finishes (closed reads) EndCollection offset call-close y t (x .scratch) noted-close (rw (eq-eqb (x .depth) 1 z))
+        finishes (closed reads) EndCollection (origin (innermost reads .object) offset) call-close y t (x .scratch) noted-close (rw (eq-eqb (x .depth) 1 z))
 
     pub close-goes : (x .top ≡ 0 → ⊥) → (m : ℕ) → y ≡ kept m → Goes (x .scratch) t m (x .place) (x .top) (set (x .frames) (x .top) noFrame)
     unfolding closed within
     close-goes e =
         let z : x .depth ≡ 1 → ⊥ = λ h. e (omega (arith, x .at)) in
-        goes (closed reads) EndCollection offset call-close y t (x .scratch) noted-close (x .place) (x .top) (set (x .frames) (x .top) noFrame) (rw (ne-eqb (x .depth) 1 z, ← x .at)) e (omega (arith, x .at, x .fits))
+        goes (closed reads) EndCollection (origin (innermost reads .object) offset) call-close y t (x .scratch) noted-close (x .place) (x .top) (set (x .frames) (x .top) noFrame) (rw (ne-eqb (x .depth) 1 z, ← x .at)) e (omega (arith, x .at, x .fits))
 
   -- a member is due
   module _ (object : ℕ) (d : due ≡ Member object) where
@@ -222,25 +222,25 @@ module _ (x : Turn) where
         refuses number values place (ap (λ (s : Step). s .answer) e)
 
     module _ (e : Event) (offset : ℕ) (f : looked object ≡ scalar e offset) (y : Noted) (t s : List ℕ) (notes : Notes e offset y t s) where
-      call-scalar : call ≡ step (passed reads offset) (eventAt e offset)
+      call-scalar : call ≡ step (passed reads offset) (eventAt e (origin object offset))
       unfolding arrive
       call-scalar = rw (call-member, f)
 
       pub scalar-fails : (f : Failure) → y ≡ failSaid f → Ends (endOf (failSaid f)) (x .held) t s
-      scalar-fails = fails (passed reads offset) e offset call-scalar y t s notes
+      scalar-fails = fails (passed reads offset) e (origin object offset) call-scalar y t s notes
 
       pub scalar-finishes : x .depth ≡ 0 → (m : ℕ) → y ≡ kept m → Ends (finishedOf (x .left - 1)) m t s
       unfolding passed within
-      scalar-finishes z = finishes (passed reads offset) e offset call-scalar y t s notes (rw (eq-eqb (x .depth) 0 z))
+      scalar-finishes z = finishes (passed reads offset) e (origin object offset) call-scalar y t s notes (rw (eq-eqb (x .depth) 0 z))
 
       pub scalar-goes : (x .depth ≡ 0 → ⊥) → (m : ℕ) → y ≡ kept m → Goes s t m offset (x .depth) (set (x .frames) (x .top) (nextIn (getD (x .frames) (x .top) noFrame)))
       unfolding passed within advanced innermost
       scalar-goes z =
-          goes (passed reads offset) e offset call-scalar y t s notes offset (x .depth) (set (x .frames) (x .top) (nextIn (getD (x .frames) (x .top) noFrame))) (rw (ne-eqb (x .depth) 0 z, ← x .at)) z (x .fits)
+          goes (passed reads offset) e (origin object offset) call-scalar y t s notes offset (x .depth) (set (x .frames) (x .top) (nextIn (getD (x .frames) (x .top) noFrame))) (rw (ne-eqb (x .depth) 0 z, ← x .at)) z (x .fits)
 
       -- the innermost container is still the same
       pub scalar-stands : Stands (x .file) (x .layout) (x .standing) (x .depth) (set (x .frames) (x .top) (nextIn (getD (x .frames) (x .top) noFrame)))
-      unfolding nextIn
+      unfolding nextIn standsIn
       scalar-stands z = rw (← x .at, getD-set-same (x .frames) (x .top) _ noFrame (omega (arith, x .long, x .at, x .fits)), x .at) (x .stands z)
 
     -- a container
@@ -254,11 +254,11 @@ module _ (x : Turn) where
       is-open-now b = refuses 14 [] offset (rw (call-enter, b))
 
       -- the innermost container is the new one
-      pub enter-stands : x .depth < maxOpen → (y : Container) → y ≡ containerAt (x .file) offset → Stands (x .file) (x .layout) (record { offset = offset; container = y }) (x .depth + 1) (set (set (x .frames) (x .top) (nextIn (getD (x .frames) (x .top) noFrame))) (x .depth) (newFrame object k))
+      pub enter-stands : x .depth < maxOpen → (y : Container) → y ≡ containerAt (x .file) offset → Stands (x .file) (x .layout) (record { offset = offset; container = y }) (x .depth + 1) (set (set (x .frames) (x .top) (nextIn (getD (x .frames) (x .top) noFrame))) (x .depth) (newFrame object k offset))
       enter-stands h y e z =
           let g : Frame = nextIn (getD (x .frames) (x .top) noFrame) in
           let last : x .depth + 1 - 1 ≡ x .depth = omega arith in
-          rw (e, last, getD-set-same (set (x .frames) (x .top) g) (x .depth) _ noFrame (omega (arith, x .long, length-set (x .frames) (x .top) g))) (sym (looked-stands (x .file) (x .layout) object shape k offset f))
+          rw (e, last, getD-set-same (set (x .frames) (x .top) g) (x .depth) _ noFrame (omega (arith, x .long, length-set (x .frames) (x .top) g))) (sym (looked-in (x .file) (x .layout) object shape k offset f (newFrame object k offset) refl refl))
 
       module _ (b : memberOf (take (x .depth) (x .frames)) object ≡ false) where
         pub is-deep : maxOpen ≤ x .depth → Ends (refused 15 [] offset) (x .held) (x .tape) (x .scratch)
@@ -266,7 +266,7 @@ module _ (x : Turn) where
         is-deep h = refuses 15 [] offset (rw (call-enter, b, le-leb _ _ h))
 
         module _ (h : x .depth < maxOpen) (e : Event) (starts : e ≡ startOf shape k) (y : Noted) (t : List ℕ) (notes : y ≡ fromTape (appendOf (x .tape) (x .held) (meaningOf e []))) (puts : t ≡ appendTo (x .tape) (x .held) (meaningOf e [])) where
-          call-start : call ≡ step (entered reads object k offset) (eventAt e offset)
+          call-start : call ≡ step (entered reads object k offset) (eventAt e (origin object offset))
           unfolding enter openOf within
           call-start = rw (call-enter, b, lt-leb _ _ h, starts)
 
@@ -274,13 +274,13 @@ module _ (x : Turn) where
           noted-start = plain-noted (x .file) (x .scratch) (x .tape) t (x .held) e offset y (rw starts (bare-plain _ (start-bare shape k))) notes puts
 
           pub enter-fails : (f : Failure) → y ≡ failSaid f → Ends (endOf (failSaid f)) (x .held) t (x .scratch)
-          enter-fails = fails (entered reads object k offset) e offset call-start y t (x .scratch) noted-start
+          enter-fails = fails (entered reads object k offset) e (origin object offset) call-start y t (x .scratch) noted-start
 
-          pub enter-goes : (m : ℕ) → y ≡ kept m → Goes (x .scratch) t m offset (x .depth + 1) (set (set (x .frames) (x .top) (nextIn (getD (x .frames) (x .top) noFrame))) (x .depth) (newFrame object k))
+          pub enter-goes : (m : ℕ) → y ≡ kept m → Goes (x .scratch) t m offset (x .depth + 1) (set (set (x .frames) (x .top) (nextIn (getD (x .frames) (x .top) noFrame))) (x .depth) (newFrame object k offset))
           unfolding entered within
           enter-goes =
-              let g : Frame = newFrame object k in
-              goes (entered reads object k offset) e offset call-start y t (x .scratch) noted-start offset (x .depth + 1) _
+              let g : Frame = newFrame object k offset in
+              goes (entered reads object k offset) e (origin object offset) call-start y t (x .scratch) noted-start offset (x .depth + 1) _
               (ap (within (x .file) (x .layout) offset (x .depth + 1)) (rw (x .at) (over (x .file) (x .layout) (x .root) (x .place) (x .depth) (x .frames) g)))
               (λ e. omega arith)
               (omega arith)
@@ -295,8 +295,8 @@ module _ (x : Turn) where
   pub scalar-lists : Listed (x .depth) (set (x .frames) (x .top) (nextIn (getD (x .frames) (x .top) noFrame))) (x .numbers)
   scalar-lists = onward-listed (x .depth) (x .top) (x .frames) (x .numbers) (x .listed)
 
-  pub enter-lists : x .depth < maxOpen → (object k : ℕ) → Listed (x .depth + 1) (set (set (x .frames) (x .top) (nextIn (getD (x .frames) (x .top) noFrame))) (x .depth) (newFrame object k)) (set (x .numbers) (x .depth) object)
-  enter-lists h object k = enter-listed (x .depth) (x .top) object k (x .frames) (x .numbers) (omega (arith, x .long)) (omega (arith, x .many)) (x .listed)
+  pub enter-lists : x .depth < maxOpen → (object k offset : ℕ) → Listed (x .depth + 1) (set (set (x .frames) (x .top) (nextIn (getD (x .frames) (x .top) noFrame))) (x .depth) (newFrame object k offset)) (set (x .numbers) (x .depth) object)
+  enter-lists h object k offset = enter-listed (x .depth) (x .top) object k offset (x .frames) (x .numbers) (omega (arith, x .long)) (omega (arith, x .many)) (x .listed)
 
   -- there are as many frames after one was moved and another written
   pub still-long : (f g : Frame) → length (set (set (x .frames) (x .top) f) (x .depth) g) ≡ maxOpen
@@ -306,14 +306,17 @@ module _ (x : Turn) where
   pub notable : (object : ℕ) (e : Event) (span : Span) (offset : ℕ) → looked object ≡ scalar e offset → spanSaid span ≡ lookedBytes (x .file) (looked object) → Notable (x .file) e span offset
   unfolding lookedBytes
   notable object e span offset f b =
-      record { short = x .short; stands = b ∙ rw f; given = scalar-given (x .file) (x .layout) object e offset f }
+      record { stands = b ∙ rw f; given = scalar-given (x .file) (x .layout) object e offset f }
 
-  -- a container's number and length stay within 32 bits
+  -- a container's number, its length and its offset stay within 32 bits
   pub short-number : (object : ℕ) (shape : Shape) (k offset : ℕ) → looked object ≡ container shape k offset → object < 2 ^ 32
   short-number object shape k offset f = omega (arith, x .few, numbered (x .file) (x .layout) object shape k offset f)
 
   pub short-length : (object : ℕ) (shape : Shape) (k offset : ℕ) → looked object ≡ container shape k offset → k < 2 ^ 32
   short-length object shape k offset f = omega (arith, x .short, measured (x .file) (x .layout) object shape k offset f)
+
+  pub short-offset : (object : ℕ) (shape : Shape) (k offset : ℕ) → looked object ≡ container shape k offset → offset < 2 ^ 32
+  short-offset object shape k offset f = omega (arith, x .short, stands-before (x .file) (x .layout) object shape k offset f)
 
   -- the innermost frame's position can be counted on; with nothing open no frame was counted yet
   pub counts : (object : ℕ) → due ≡ Member object → getD (x .frames) (x .top) noFrame .position + 1 < 2 ^ 32

@@ -23,8 +23,8 @@ use Rattle.event.specs.declared.Event.{Event}
 use Rattle.event.specs.declared.Event.the-variants.{StartArray, StartDictionary, EndCollection, Boolean, Data, Date, Integer, Real, Nan, String, Uid}
 use Rattle.number.specs.Part.{part}
 use Rattle.layout.specs.Layout.{dueOf, lookOf, sourceOf}
-use Rattle.layout.specs.FoundLaws.{start-given}
-use Rattle.layout.specs.LookLaws.{Bytes-right, Looked-right, look-right, close-given}
+use Rattle.layout.specs.FoundLaws.{start-asked, end-asked}
+use Rattle.layout.specs.LookLaws.{Bytes-right, Looked-right, look-right}
 use Rattle.layout.specs.Looked.{Shape, array, dictionary, Looked, barred, missing, faulty, scalar, container, startOf}
 use Rattle.layout.specs.Bytes.{Asked, inFile, inUtf16, noBytes, denied, eventAsked, hasBytes}
 use Rattle.number.specs.Either.{either}
@@ -97,10 +97,10 @@ module _ (file : List ℕ) where
   abbrev Answers : Step → Type 0
   Answers s = Handed (s .answer)
 
-  enter-right : (r : Reader) (object : ℕ) (shape : Shape) (n offset : ℕ) → eventAsked file (startOf shape n) offset ≡ noBytes → Handed (enter r object shape n offset .answer)
+  enter-right : (r : Reader) (object : ℕ) (shape : Shape) (n offset : ℕ) → Handed (enter r object shape n offset .answer)
   unfolding enter
-  enter-right r object shape n offset g =
-      either Answers (memberOf (openOf r) object) _ _ (λ h. inl listed-14) (λ h. either Answers (leb maxOpen (r .depth)) _ _ (λ k. inl listed-15) (λ k. rw g (start-bare shape n)))
+  enter-right r object shape n offset =
+      either Answers (memberOf (openOf r) object) _ _ (λ h. inl listed-14) (λ h. either Answers (leb maxOpen (r .depth)) _ _ (λ k. inl listed-15) (λ k. rw (start-asked file shape n offset) (start-bare shape n)))
 
   arrive-right : (l : Layout) (r : Reader) (object : ℕ) (x : Looked) → Looked-right file l object x → Handed (arrive r object x .answer)
   unfolding arrive
@@ -108,12 +108,12 @@ module _ (file : List ℕ) where
   arrive-right l r object missing h = inr refl
   arrive-right l r object (faulty number values offset) h = inl (step-refusal number (file-refusal number h))
   arrive-right l r object (scalar e offset) h = stand-given e (eventAsked file e offset) h
-  arrive-right l r object (container shape n offset) h = enter-right r object shape n offset (start-given file _ shape n offset (h .lies))
+  arrive-right l r object (container shape n offset) h = enter-right r object shape n offset
 
   follow-right : (l : Layout) (r : Reader) (d : Due) → dueOf file l (innermost r) ≡ d → Handed (follow (sourceOf file l) r d .answer)
   unfolding follow sourceOf
   follow-right l r Wrong h = inr refl
-  follow-right l r (Close offset) h = rw (close-given file l (innermost r) offset h) tt
+  follow-right l r (Close offset) h = rw (end-asked file offset) tt
   follow-right l r (Member object) h = arrive-right l r object (lookOf file l object) (look-right file l object)
 
   refs-right : (r : Reader) (offsets : Width) (refs : Size) → Handed (withRefs file r offsets refs .answer)

@@ -1,11 +1,11 @@
--- One event of a reader put on the tape: its bytes are asked for, then it is appended.
+-- One event of a reader put on the tape: its bytes are taken from where they were read, then it is appended.
 use mathlib.Core.Bool.{cond}
 use mathlib.Core.List.{List, []}
 use Prim.Native.Nat.{ℕ}
 use Rattle.event.specs.Meaning.{Meaning, meaningOf}
-use Rattle.layout.specs.Bytes.{hasBytes}
-use Rattle.reader.specs.Request.{TextSaid, long, refusing, askedOf, lengthSaid, scratchAfter, partSaid}
-use Rattle.reader.specs.declared.answer.Record.{Record}
+use Rattle.event.specs.declared.Event.{Event}
+use Rattle.layout.specs.Bytes.{Asked, eventAsked, hasBytes}
+use Rattle.reader.specs.Request.{TextSaid, long, refusing, lengthSaid, scratchAfter, partSaid}
 use Rattle.tape.specs.Append.{appendOf, appendTo}
 use Rattle.tape.specs.Append as tape
 
@@ -31,15 +31,15 @@ fromTape (tape.refused number place) = refused number [] place
 unfoldable pub putNote : List ℕ → List ℕ → ℕ → Meaning → Note
 putNote scratch tape held m = noting (fromTape (appendOf tape held m)) (appendTo tape held m) scratch
 
--- the bytes of data or text were asked for
-unfoldable pub textNote : List ℕ → List ℕ → List ℕ → ℕ → Record → TextSaid → Note
-textNote file scratch tape held r (long n) =
-    putNote (scratchAfter file scratch (askedOf file r)) tape held (meaningOf (r .event) (partSaid file (scratchAfter file scratch (askedOf file r)) (askedOf file r)))
-textNote file scratch tape held r (refusing number values place) =
-    noting (refused number values place) tape (scratchAfter file scratch (askedOf file r))
+-- the bytes of data or text, which stand there, are handed out as the text request hands them out
+unfoldable pub textNote : List ℕ → List ℕ → List ℕ → ℕ → Event → Asked → TextSaid → Note
+textNote file scratch tape held e a (long n) =
+    putNote (scratchAfter file scratch a) tape held (meaningOf e (partSaid file (scratchAfter file scratch a) a))
+textNote file scratch tape held e a (refusing number values place) = noting (refused number values place) tape (scratchAfter file scratch a)
 
-unfoldable pub noteOf : List ℕ → List ℕ → List ℕ → ℕ → Record → Note
-noteOf file scratch tape held r =
-    cond (hasBytes (r .event))
-    (textNote file scratch tape held r (lengthSaid file scratch (r .offset) (askedOf file r)))
-    (putNote scratch tape held (meaningOf (r .event) []))
+-- an event that was read at an offset
+unfoldable pub noteOf : List ℕ → List ℕ → List ℕ → ℕ → Event → ℕ → Note
+noteOf file scratch tape held e offset =
+    cond (hasBytes e)
+    (textNote file scratch tape held e (eventAsked file e offset) (lengthSaid file scratch offset (eventAsked file e offset)))
+    (putNote scratch tape held (meaningOf e []))

@@ -36,7 +36,7 @@ byNote on held r n = byNoted on held r (n .scratch) (n .tape) (n .answer)
 
 -- after a call of the reader
 unfoldable pub bySaid : (List ℕ → List ℕ → ℕ → Reader → Run) → List ℕ → List ℕ → List ℕ → ℕ → Reader → Said → Run
-bySaid on file scratch tape held r (event e) = byNote on held r (noteOf file scratch tape held e)
+bySaid on file scratch tape held r (event e) = byNote on held r (noteOf file scratch tape held (e .event) (e .offset))
 bySaid on file scratch tape held r reader.ended = run ended held tape scratch
 bySaid on file scratch tape held r (reader.refused number values place) = run (refused number values place) held tape scratch
 

@@ -18,20 +18,20 @@ use Rattle.event.specs.declared.Event.the-variants.{String}
 use Rattle.number.specs.Part.{part}
 use Rattle.layout.specs.Bytes.{hasBytes, Asked, inFile, inUtf16, noBytes, denied, eventAsked}
 use Rattle.layout.specs.LookLaws.{bare-plain}
-use Rattle.reader.specs.Machine.{Said, event, recordOf, eventAt}
+use Rattle.reader.specs.Machine.{Said, Origin, origin, event, eventAt}
 use Rattle.reader.specs.Machine as reader
 use Rattle.reader.specs.Meanings.{Told, means, bytesAsked, meaningAt, told, answers}
 use Rattle.reader.specs.Meanings as meanings
 use Rattle.reader.specs.Next.{nextOf}
 use Rattle.reader.specs.Refusals.{not-step-16, not-step-27}
-use Rattle.reader.specs.Request.{askedOf, lengthSaid, scratchAfter, partSaid}
+use Rattle.reader.specs.Request.{lengthSaid, scratchAfter, partSaid}
 use Rattle.reader.specs.State.{maxLength, freshReader}
 use Rattle.reader.specs.declared.state.Reader.{Reader}
 use Rattle.tape.specs.Append.{putOf, putTo, fits, appendOf, appendTo}
 use Rattle.unicode.proofs.Writing.{sets-append}
 use Rattle.tape.specs.Code.{bytesFor, allowed}
 use Rattle.tape.specs.Events.{tapeOf}
-use Rattle.transcribe.specs.HandedLaws.{Given, Own, Handed, next-handed, next-short, plain-same, own-not, given-allowed}
+use Rattle.transcribe.specs.HandedLaws.{Given, Own, Handed, next-handed, plain-same, own-not, given-allowed}
 use Rattle.transcribe.specs.Note.{Note, noting, fromTape, putNote, textNote, noteOf}
 use Rattle.transcribe.specs.Note as note
 use Rattle.transcribe.specs.Run.{End, ended, stopped, refused, Run, run, byNoted, byNote, bySaid, runOf, transcriptOf}
@@ -98,53 +98,49 @@ pub data Notes (file scratch tape : List ℕ) (held : ℕ) (m : Meaning) (offset
   puts : (s : List ℕ) → length s ≡ length scratch → x ≡ putNote s tape held m → Notes file scratch tape held m offset x
   lacks : NoScratch file scratch m offset 16 [] offset → x ≡ noting (note.refused 16 [] offset) tape scratch → Notes file scratch tape held m offset x
 
-module _ (file scratch tape : List ℕ) (held : ℕ) (e : Event) (offset : ℕ) (short : ltb maxLength (length file) ≡ false) where
-  asked-is : askedOf file (recordOf e offset) ≡ eventAsked file e offset
-  unfolding askedOf
-  asked-is = rw short
-
-  note-plain : hasBytes e ≡ false → noteOf file scratch tape held (recordOf e offset) ≡ putNote scratch tape held (meaningAt file e offset)
+module _ (file scratch tape : List ℕ) (held : ℕ) (e : Event) (offset : ℕ) where
+  note-plain : hasBytes e ≡ false → noteOf file scratch tape held e offset ≡ putNote scratch tape held (meaningAt file e offset)
   unfolding noteOf meaningAt
   note-plain h = rw (h, plain-same e (bytesAsked file (eventAsked file e offset)) h)
 
   module _ (h : hasBytes e ≡ true) (start n : ℕ) where
-    pub note-file : eventAsked file e offset ≡ inFile start n → noteOf file scratch tape held (recordOf e offset) ≡ putNote scratch tape held (meaningAt file e offset)
+    pub note-file : eventAsked file e offset ≡ inFile start n → noteOf file scratch tape held e offset ≡ putNote scratch tape held (meaningAt file e offset)
     unfolding noteOf textNote lengthSaid scratchAfter partSaid meaningAt bytesAsked
-    note-file d = rw (h, asked-is, d, lengthSaid, textNote, asked-is, d)
+    note-file d = rw (h, d, lengthSaid, textNote)
 
     module _ (d : eventAsked file e offset ≡ inUtf16 start n) where
-      pub note-long : leb (length (utf16Text file start n)) (length scratch) ≡ false → noteOf file scratch tape held (recordOf e offset) ≡ noting (note.refused 16 [] offset) tape scratch
+      pub note-long : leb (length (utf16Text file start n)) (length scratch) ≡ false → noteOf file scratch tape held e offset ≡ noting (note.refused 16 [] offset) tape scratch
       unfolding noteOf textNote lengthSaid scratchAfter
-      note-long f = rw (h, asked-is, d, lengthSaid, f, textNote, asked-is, d, scratchAfter, f)
+      note-long f = rw (h, d, lengthSaid, f, textNote, scratchAfter, f)
 
-      pub note-changed : leb (length (utf16Text file start n)) (length scratch) ≡ true → noteOf file scratch tape held (recordOf e offset) ≡ putNote (utf16Text file start n ++ drop (length (utf16Text file start n)) scratch) tape held (meaningAt file e offset)
+      pub note-changed : leb (length (utf16Text file start n)) (length scratch) ≡ true → noteOf file scratch tape held e offset ≡ putNote (utf16Text file start n ++ drop (length (utf16Text file start n)) scratch) tape held (meaningAt file e offset)
       unfolding noteOf textNote lengthSaid scratchAfter partSaid meaningAt bytesAsked
       note-changed f =
           let t : List ℕ = utf16Text file start n in
           let g : leb (length t) (length (t ++ drop (length t) scratch)) ≡ true = le-leb (length t) (length (t ++ drop (length t) scratch)) (simp length-append (omega arith)) in
-          rw (h, asked-is, d, lengthSaid, f, textNote, asked-is, d, scratchAfter, f, partSaid, g, take-append-seam t (drop (length t) scratch))
+          rw (h, d, lengthSaid, f, textNote, scratchAfter, f, partSaid, g, take-append-seam t (drop (length t) scratch))
 
-      note-utf16 : e ≡ String → Notes file scratch tape held (meaningAt file e offset) offset (noteOf file scratch tape held (recordOf e offset))
+      note-utf16 : e ≡ String → Notes file scratch tape held (meaningAt file e offset) offset (noteOf file scratch tape held e offset)
       unfolding meaningAt bytesAsked meaningOf
       note-utf16 k = go (leb (length (utf16Text file start n)) (length scratch)) refl
         where
-          go : (b : Bool) → leb (length (utf16Text file start n)) (length scratch) ≡ b → Notes file scratch tape held (meaningAt file e offset) offset (noteOf file scratch tape held (recordOf e offset))
+          go : (b : Bool) → leb (length (utf16Text file start n)) (length scratch) ≡ b → Notes file scratch tape held (meaningAt file e offset) offset (noteOf file scratch tape held e offset)
           go true f =
               let l : length (utf16Text file start n) ≤ length scratch = leb-true _ _ f in
               puts (utf16Text file start n ++ drop (length (utf16Text file start n)) scratch) (rw (length-append, length-drop) (omega arith)) (note-changed f)
           go false f =
               lacks (record { says = (refl, refl, refl); start = start; count = n; stands = rw (← k) d; is = rw (d, k); long = leb-false _ _ f }) (note-long f)
 
-  note-asked : (a : Asked) → eventAsked file e offset ≡ a → Given file e a → hasBytes e ≡ true → Notes file scratch tape held (meaningAt file e offset) offset (noteOf file scratch tape held (recordOf e offset))
+  note-asked : (a : Asked) → eventAsked file e offset ≡ a → Given file e a → hasBytes e ≡ true → Notes file scratch tape held (meaningAt file e offset) offset (noteOf file scratch tape held e offset)
   note-asked noBytes d g h = absurd (true≢false (sym h ∙ bare-plain e g))
   note-asked (denied number values) d g h = absurd g
   note-asked (inFile start n) d g h = puts scratch refl (note-file h start n d)
   note-asked (inUtf16 start n) d g h = note-utf16 h start n d (g .0)
 
-  notes : Given file e (eventAsked file e offset) → Notes file scratch tape held (meaningAt file e offset) offset (noteOf file scratch tape held (recordOf e offset))
+  notes : Given file e (eventAsked file e offset) → Notes file scratch tape held (meaningAt file e offset) offset (noteOf file scratch tape held e offset)
   notes g = go (hasBytes e) refl
     where
-      go : (b : Bool) → hasBytes e ≡ b → Notes file scratch tape held (meaningAt file e offset) offset (noteOf file scratch tape held (recordOf e offset))
+      go : (b : Bool) → hasBytes e ≡ b → Notes file scratch tape held (meaningAt file e offset) offset (noteOf file scratch tape held e offset)
       go true h = note-asked (eventAsked file e offset) refl g h
       go false h = puts scratch refl (note-plain h)
 
@@ -178,9 +174,9 @@ ends-same file s scratch t tape held left l k next ended w = w
 ends-same file s scratch t tape held left l k next stopped w = w
 ends-same file s scratch t tape held left l k next (refused number values place) w = refuses-same file s scratch t tape held l k next number values place w
 
-module _ (n : ℕ) (file scratch tape : List ℕ) (held : ℕ) (r : Reader) (e : Event) (offset : ℕ) (called : nextOf file r .answer ≡ eventAt e offset) where
+module _ (n : ℕ) (file scratch tape : List ℕ) (held : ℕ) (r : Reader) (e : Event) (o : Origin) (called : nextOf file r .answer ≡ eventAt e o) where
   abbrev means-now : Meaning
-  means-now = meaningAt file e offset
+  means-now = meaningAt file e (o .offset)
 
   -- it goes on
   go-on : (s : List ℕ) (x : Run) → length s ≡ length scratch → held + length (bytesFor means-now) ≤ length tape → Transcribed n file s (sets tape held (bytesFor means-now)) (held + length (bytesFor means-now)) (nextOf file r .state) x → Transcribed (suc n) file scratch tape held r x
@@ -189,11 +185,11 @@ module _ (n : ℕ) (file scratch tape : List ℕ) (held : ℕ) (r : Reader) (e :
       let k : length (sets tape held (bytesFor means-now)) ≡ length tape = length-sets tape held (bytesFor means-now) in
       let z : suc n - suc (length (w .puts)) ≡ n - length (w .puts) = omega arith in
       record {
-        puts = record { meaning = means-now; offset = offset } ∷ w .puts;
+        puts = record { meaning = means-now; offset = o .offset } ∷ w .puts;
         next = w .next;
         within = omega (arith, w .within);
         in-order = rw (called, told, w .in-order);
-        follows = rw (called, told) (ap (λ (l : List Told). means means-now offset ∷ l) (w .follows));
+        follows = rw (called, told) (ap (λ (l : List Told). means means-now (o .offset) ∷ l) (w .follows));
         held-is = rw length-append (omega (arith, w .held-is));
         tape-is = w .tape-is ∙ sym (sets-append (bytesFor means-now) (tapeOf (meaningsOf (w .puts))) tape held);
         room = λ h. rw k at (w .room (rw k fits));
@@ -210,10 +206,10 @@ module _ (n : ℕ) (file scratch tape : List ℕ) (held : ℕ) (r : Reader) (e :
       go true f = rw (a, f) (go-on s _ l (leb-true _ _ f) (ih (sets tape held (bytesFor means-now)) (held + length (bytesFor means-now))))
       go false f = rw (a, f) (stop-here (suc n) file scratch tape held r s (refused 27 [] held) l (rw (called, told) (inr (record { says = (refl, refl, refl); long = leb-false _ _ f }))))
 
-  event-run : allowed means-now ≡ true → (x : Note) → Notes file scratch tape held means-now offset x → ((s t : List ℕ) (h : ℕ) → Transcribed n file s t h (nextOf file r .state) (runOf n file s t h (nextOf file r .state))) → Transcribed (suc n) file scratch tape held r (byNote (λ s t h q. runOf n file s t h q) held (nextOf file r .state) x)
+  event-run : allowed means-now ≡ true → (x : Note) → Notes file scratch tape held means-now (o .offset) x → ((s t : List ℕ) (h : ℕ) → Transcribed n file s t h (nextOf file r .state) (runOf n file s t h (nextOf file r .state))) → Transcribed (suc n) file scratch tape held r (byNote (λ s t h q. runOf n file s t h q) held (nextOf file r .state) x)
   unfolding byNote byNoted told
   event-run a x (puts s l e) ih = rw e (put-run s l a (ih s))
-  event-run a x (lacks w e) ih = rw e (stop-here (suc n) file scratch tape held r scratch (refused 16 [] offset) refl (rw (called, told) (inl w)))
+  event-run a x (lacks w e) ih = rw e (stop-here (suc n) file scratch tape held r scratch (refused 16 [] (o .offset)) refl (rw (called, told) (inl w)))
 
 -- every run is such a one: the bytes behind those held before are those of the reader's events, in order; the next answer is the ending, or
 -- the event that there is no room for, unless the budget is used up. That the file is bytes, as all lent files are, serves one thing: text
@@ -225,7 +221,7 @@ run-told (suc n) file b scratch tape held r = go (nextOf file r .answer) refl (n
   where
     go : (a : Said) → nextOf file r .answer ≡ a → Handed file a → ((s t : List ℕ) (h : ℕ) (q : Reader) → Transcribed n file s t h q (runOf n file s t h q)) → Transcribed (suc n) file scratch tape held r (runOf (suc n) file scratch tape held r)
     go (event e) c g ih =
-        rw c (event-run n file scratch tape held r (e .event) (e .offset) c (given-allowed file b (e .event) (eventAsked file (e .event) (e .offset)) g) _ (notes file scratch tape held (e .event) (e .offset) (next-short file r e c) g) (λ (s t : List ℕ) (h : ℕ). ih s t h (nextOf file r .state)))
+        rw c (event-run n file scratch tape held r (e .event) (origin (e .number) (e .offset)) c (given-allowed file b (e .event) (eventAsked file (e .event) (e .offset)) g) _ (notes file scratch tape held (e .event) (e .offset) g) (λ (s t : List ℕ) (h : ℕ). ih s t h (nextOf file r .state)))
     go reader.ended c g ih = rw c (stop-here (suc n) file scratch tape held r scratch ended refl (rw (c, told)))
     go (reader.refused number values place) c g ih =
         rw c (stop-here (suc n) file scratch tape held r scratch (refused number values place) refl (rw (c, told) (refl, refl, refl, g)))

@@ -17,7 +17,6 @@ use Rattle.layout.specs.declared.layout.Layout.{Layout}
 use Rattle.layout.specs.declared.layout.Standing.{Standing}
 use Rattle.layout.specs.declared.lookup.Span.{Span}
 use Rattle.layout.specs.declared.frame.Frame.{Frame}
-use Rattle.reader.specs.State.{maxLength}
 use Rattle.reader.specs.declared.state.Reader.{Reader}
 use Rattle.tape.specs.Append.{Said, held, refused}
 use Rattle.transcribe.specs.HandedLaws.{Given}
@@ -41,7 +40,6 @@ within file l place depth frames =
 
 -- an event that a reader handed out, with where its bytes stand
 pub record Notable (file : List ℕ) (e : Event) (span : Span) (offset : ℕ) : Type 0 where
-  pub short : length file ≤ maxLength
   pub stands : spanSaid span ≡ eventAsked file e offset
   pub given : Given file e (eventAsked file e offset)
 

@@ -21,7 +21,6 @@ ghost use Rattle.event.specs.declared.Event.the-variants.{EndCollection};
 ghost use Rattle.layout.specs.Bytes.{hasBytes};
 ghost use Rattle.layout.specs.Looked.{startOf};
 ghost use Rattle.layout.specs.Said.{shapeSaid};
-ghost use Rattle.reader.specs.Machine.{recordOf};
 ghost use Rattle.tape.specs.Append.{said, putOf, putTo, appendOf, appendTo};
 ghost use Rattle.tape.specs.Code.{bytesFor};
 ghost use Rattle.tape.specs.Seven.{seven};
@@ -53,7 +52,7 @@ pub(crate) fn note(
     offset: u64,
 ) -> NoteAnswer
     requires { ⌜ Notable (now file) event span offset ⌝ }
-    ensures { λ r. ⌜ noting (noteSaid r) (now (tape .exit)) (now (scratch .exit)) ≡ noteOf (now (file .entry)) (now (scratch .entry)) (now (tape .entry)) held (recordOf event offset) ⌝ }
+    ensures { λ r. ⌜ noting (noteSaid r) (now (tape .exit)) (now (scratch .exit)) ≡ noteOf (now (file .entry)) (now (scratch .entry)) (now (tape .entry)) held event offset ⌝ }
 {
     match span {
         Span::NoBytes => note_plain(tape, held, event),

@@ -11,7 +11,7 @@ use layout::layout::Due;
 use layout::layout::Layout;
 use layout::layout::Standing;
 use layout::layout::due_in;
-use layout::layout::stands_at;
+use layout::layout::stands_in;
 use layout::lookup::Look;
 use layout::lookup::look_up;
 use object::container::container_at;
@@ -72,7 +72,7 @@ pub(crate) fn walk(
                     }
                     frames[top] = Frame::NONE;
                     depth = top;
-                    standing = stands_at(file, layout, frames[top - 1].object);
+                    standing = stands_in(file, layout, frames[top - 1]);
                     held = n;
                     continue;
                 }
@@ -126,6 +126,7 @@ pub(crate) fn walk(
                                 object: number,
                                 position: 0,
                                 length: length as u32,
+                                offset: offset as u32,
                             };
                             depth += 1;
                             standing = Standing {

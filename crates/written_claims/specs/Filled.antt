@@ -7,11 +7,11 @@ use Rattle.event.specs.Meaning.{Meaning, array, dictionary, close, boolean, byt
 use Rattle.event.specs.declared.Event.{Event}
 use Rattle.event.specs.declared.Event.the-variants.{EndCollection}
 use Rattle.layout.specs.Looked.{Shape, Looked, barred, missing, faulty, scalar, container, startOf}
-use Rattle.reader.specs.Machine.{Said, eventAt}
+use Rattle.reader.specs.Machine.{Said, Origin, origin, eventAt}
 use Rattle.layout.specs.Looked as shape
 use Rattle.transcribe.specs.TranscriptLaws.{Put}
 use Rattle.written.specs.File.{placeOf}
-use Rattle.written.specs.Graph.{Scalar, Kind, arr, dic, Piece, start, end, pieceOf, Name, val, box, kids, meant}
+use Rattle.written.specs.Graph.{Scalar, Kind, arr, dic, Piece, start, end, pieceOf, Name, val, box, kids, number, meant}
 use Rattle.written.specs.Graph as graph
 use Rattle.written.specs.Weigh.{counted}
 
@@ -46,12 +46,16 @@ handedFrom at n (p ∷ ps) (end ∷ es) = record { meaning = close; offset = at 
 unfoldable pub handedOf : List Meaning → List Put
 handedOf ms = handedFrom (placeOf (map pieceOf ms)) 0 [] (map pieceOf ms)
 
--- the same as the reader's own events, those of scalars given
+-- where the events of an object come from: its number, and its offset
+abbrev pub originOf : List Piece → (Name → ℕ) → Name → Origin
+originOf es at x = origin (number es x) (at x)
+
+-- the same as the reader's own events, those of scalars given, each with where it comes from
 abbrev pub shapeOf : Kind → Shape
 shapeOf arr = shape.array
 shapeOf dic = shape.dictionary
 
-unfoldable pub saidFrom : (Scalar → Event) → (Name → ℕ) → ℕ → List ℕ → List Piece → List Said
+unfoldable pub saidFrom : (Scalar → Event) → (Name → Origin) → ℕ → List ℕ → List Piece → List Said
 saidFrom by at n ps [] = []
 saidFrom by at n ps (graph.scalar s ∷ es) = eventAt (by s) (at (val s)) ∷ saidFrom by at (suc n) ps es
 saidFrom by at n ps (start k ∷ es) = eventAt (startOf (shapeOf k) (counted k (length (kids 0 (suc n) es)))) (at (box n)) ∷ saidFrom by at (suc n) (n ∷ ps) es

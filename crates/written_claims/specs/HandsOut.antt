@@ -7,8 +7,8 @@ use lib.ListN.{length}
 use Rattle.event.specs.Meaning.{Meaning, array, dictionary, close, boolean, bytes, date, integer, real, text, uid}
 use Rattle.event.specs.declared.Event.{Event}
 use Rattle.unicode.specs.Unicode.{isAscii}
-use Rattle.layout.specs.Bytes.{hasBytes}
-use Rattle.reader.specs.Machine.{Said, recordOf, eventAt}
+use Rattle.layout.specs.Bytes.{eventAsked, hasBytes}
+use Rattle.reader.specs.Machine.{Said, Origin, origin, recordOf, eventAt}
 use Rattle.reader.specs.Meanings.{meaningAt}
 use Rattle.reader.specs.Request.{refusing, askedOf, lengthSaid, scratchAfter}
 use Rattle.reader.specs.RequestLaws.{Gives}
@@ -40,21 +40,27 @@ scratchFor (real b) = 0
 scratchFor (text s) = cond (isAscii s) 0 (length s)
 scratchFor (uid n) = 0
 
--- the request where the scratch is too short: 16 at the event's offset, and the scratch is as it was
-pub record Lacks (file scratch : List ℕ) (e : Event) (at : ℕ) : Type 0 where
-  pub has : hasBytes e ≡ true
-  pub first : lengthSaid file scratch at (askedOf file (recordOf e at)) ≡ refusing 16 [] at
-  pub kept : scratchAfter file scratch (askedOf file (recordOf e at)) ≡ scratch
+-- the request for a record: for the bytes of its event, where they stand
+abbrev pub AsksOwn : List ℕ → Event → Origin → Type 0
+AsksOwn file e o = askedOf file (recordOf e o) ≡ eventAsked file e (o .offset)
 
--- an event with its meaning and offset; the request gives its bytes wherever the scratch has room for them, none if it isn't data or text, and 16
--- wherever it has not
+-- the request where the scratch is too short: 16 at the event's offset, and the scratch is as it was
+pub record Lacks (file scratch : List ℕ) (e : Event) (o : Origin) : Type 0 where
+  pub has : hasBytes e ≡ true
+  pub first : lengthSaid file scratch (o .offset) (askedOf file (recordOf e o)) ≡ refusing 16 [] (o .offset)
+  pub kept : scratchAfter file scratch (askedOf file (recordOf e o)) ≡ scratch
+
+-- an event with its meaning, and its object's number and offset; the request for it is for its own bytes: they are given wherever the scratch has room
+-- for them, none if it isn't data or text, and 16 wherever it has not
 pub record HandsOut (file : List ℕ) (p : Put) (x : Said) : Type 0 where
   pub e : Event
-  pub is : x ≡ eventAt e (p .offset)
+  pub number : ℕ
+  pub is : x ≡ eventAt e (origin number (p .offset))
   pub means : meaningAt file e (p .offset) ≡ p .meaning
+  pub asks : AsksOwn file e (origin number (p .offset))
   pub gives : (scratch : List ℕ) → scratchFor (p .meaning) ≤ length scratch
-      → Gives file scratch (p .offset) (askedOf file (recordOf e (p .offset))) (contentOf (p .meaning))
-  pub lacks : (scratch : List ℕ) → length scratch < scratchFor (p .meaning) → Lacks file scratch e (p .offset)
+      → Gives file scratch (p .offset) (askedOf file (recordOf e (origin number (p .offset)))) (contentOf (p .meaning))
+  pub lacks : (scratch : List ℕ) → length scratch < scratchFor (p .meaning) → Lacks file scratch e (origin number (p .offset))
 
 -- answer by answer
 abbrev pub HandOut : List ℕ → List Put → List Said → Type 0

@@ -3,9 +3,8 @@ use mathlib.Core.Bool.{Bool, true, false, cond, true≢false, false≢true}
 use mathlib.Core.List.{List, [], _∷_, map}
 use mathlib.Core.Logic.{_⊎_, inl, inr}
 use mathlib.Core.Path.{_≡_, refl, sym, ap, _∙_}
-use Prim.Native.Nat.{ℕ, _≤_, _<_}
+use Prim.Native.Nat.{ℕ, _<_}
 use native.Mathlib.Omega.{arith}
-use borrow.Author.Tests.{le-ltb}
 use lib.ListN.{length}
 use Rattle.event.specs.Meaning.{bytes, text, meaningOf}
 use Rattle.event.specs.declared.Event.{Event}
@@ -13,13 +12,11 @@ use Rattle.event.specs.declared.Event.the-variants.{StartArray, StartDictionary
 use Rattle.unicode.specs.Unicode.{isAscii, toUtf8}
 use Rattle.number.specs.Part.{part}
 use Rattle.layout.specs.Bytes.{Asked, inFile, inUtf16, noBytes, denied, eventAsked, hasBytes}
-use Rattle.reader.specs.Machine.{Said, eventAt}
+use Rattle.reader.specs.Machine.{Said, origin, eventAt}
 use Rattle.reader.specs.Meanings.{bytesAsked, meaningAt, told}
-use Rattle.reader.specs.Request.{askedOf}
 use Rattle.reader.specs.RequestLaws.{Present, scratchAsked, gives, lacks}
-use Rattle.reader.specs.State.{maxLength}
 use Rattle.transcribe.specs.TranscriptLaws.{Put, toldOf}
-use Rattle.written_claims.specs.HandsOut.{contentOf, scratchFor, HandsOut, HandOut}
+use Rattle.written_claims.specs.HandsOut.{contentOf, scratchFor, AsksOwn, HandsOut, HandOut}
 use Rattle.written_claims.specs.Shown.{Asks}
 
 -- the bytes beside a data or text event are its content
@@ -116,21 +113,24 @@ module _ (file : List ℕ) (e : Event) where
   asks-has noBytes d some = absurd (omega arith)
   asks-has (denied number values) d some = absurd d
 
-pub hands-out : (file : List ℕ) → length file ≤ maxLength → (p : Put) (e : Event) → meaningAt file e (p .offset) ≡ p .meaning → Asks file e (eventAsked file e (p .offset)) → HandsOut file p (eventAt e (p .offset))
-unfolding askedOf meaningAt
-hands-out file short p e m d =
+pub hands-out : (file : List ℕ) (n : ℕ) (p : Put) (e : Event) → AsksOwn file e (origin n (p .offset)) → meaningAt file e (p .offset) ≡ p .meaning → Asks file e (eventAsked file e (p .offset))
+    → HandsOut file p (eventAt e (origin n (p .offset)))
+unfolding meaningAt
+hands-out file n p e own m d =
     let a = eventAsked file e (p .offset) in
     let needs : scratchFor (p .meaning) ≡ scratchAsked file a = ap scratchFor (sym m) ∙ asks-scratch file e a d in
     let content : bytesAsked file a ≡ contentOf (p .meaning) = sym (asks-content file e a d) ∙ ap contentOf m in
     record {
       e = e;
+      number = n;
       is = refl;
       means = m;
-      gives = λ scratch room. rw (le-ltb maxLength (length file) short, ← content) (gives file scratch (p .offset) a (asks-whole file e a d) (rw needs at room));
+      asks = own;
+      gives = λ scratch room. rw (own, ← content) (gives file scratch (p .offset) a (asks-whole file e a d) (rw needs at room));
       lacks = λ scratch less.
           let short-of : length scratch < scratchAsked file a = rw needs at less in
           let k = lacks file scratch (p .offset) a short-of in
-          record { has = asks-has file e a d (omega arith); first = rw (le-ltb maxLength (length file) short) (k .0); kept = rw (le-ltb maxLength (length file) short) (k .1) };
+          record { has = asks-has file e a d (omega arith); first = rw own (k .0); kept = rw own (k .1) };
     }
 
 -- what they mean

@@ -30,6 +30,7 @@ pub mod Again
 pub mod End
 pub mod EndLaws
 pub mod HandsOut
+pub mod AskedLaws
 pub mod HandsOutLaws
 pub mod Outcome
 pub mod OutcomeLaws

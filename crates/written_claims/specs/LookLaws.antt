@@ -1,14 +1,14 @@
 -- What the reader looks up and is due in a written file, from what stands in it.
 use mathlib.Core.List.{List}
-use mathlib.Core.Path.{_≡_}
+use mathlib.Core.Path.{_≡_, refl}
 use Prim.Native.Nat.{ℕ, _^_, _<_}
-use borrow.Author.Tests.{lt-ltb}
+use borrow.Author.Tests.{lt-ltb, eq-eqb}
 use lib.ListN.{length, getD}
 use Rattle.number.specs.Width.{bytesIn}
 use Rattle.unicode.specs.Bounds.{Below}
 use Rattle.object.specs.Container.{containerAt}
 use Rattle.object.specs.Object.{objectAt}
-use Rattle.layout.specs.Layout.{entryAt, lookIn, lookFrom, lookOf, dueIn, standsFrom, standsAt, dueOf}
+use Rattle.layout.specs.Layout.{entryAt, lookIn, lookFrom, lookOf, dueIn, keptFrom, standsIn, dueOf}
 use Rattle.layout.specs.declared.layout.Entry.the-variants.{Of}
 use Rattle.layout.specs.declared.layout.Layout.{Layout}
 use Rattle.layout.specs.declared.frame.Frame.{Frame}
@@ -27,6 +27,6 @@ module _ (file : List ℕ) (l : Layout) (n at : ℕ) (numbered : n < l .count) (
   unfolding lookOf lookFrom
   look-there = rw (lt-ltb n (l .count) numbered, entry)
 
-  pub due-there : (f : Frame) → f .object ≡ n → dueOf file l f ≡ dueIn file l f at (containerAt file at)
-  unfolding dueOf standsAt standsFrom
-  due-there f e = rw (e, lt-ltb n (l .count) numbered, entry)
+  pub due-there : (f : Frame) → f .object ≡ n → f .offset ≡ at → dueOf file l f ≡ dueIn file l f at (containerAt file at)
+  unfolding dueOf standsIn keptFrom
+  due-there f e k = rw (e, k, lt-ltb n (l .count) numbered, entry, eq-eqb at at refl)

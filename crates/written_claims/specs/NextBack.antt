@@ -21,7 +21,7 @@ use Rattle.reader.specs.State.{maxOpen, maxLength, freshReader, moved}
 use Rattle.written.specs.Graph.{Piece, Name}
 use Rattle.written.specs.Shape.{whole}
 use Rattle.written_claims.specs.Back.{read-from, eventBy, Shows}
-use Rattle.written_claims.specs.Filled.{saidFrom}
+use Rattle.written_claims.specs.Filled.{originOf, saidFrom}
 use Rattle.written_claims.specs.Frames.{inside}
 
 pub told-ended : (file : List ℕ) (m : ℕ) (l : List Said) → map (told file) (l ++ replicate m machine.ended) ≡ map (told file) l ++ replicate m ended
@@ -42,6 +42,6 @@ module _ (file : List ℕ) (l : Layout) (short : length file ≤ maxLength) (tra
 
   -- the reader's answers on the file
   pub read-said : (all : List Piece) (placeOf : Name → ℕ) → Shows all file (sourceOf file l) placeOf → (m : ℕ) → whole maxOpen all ≡ true
-      → answersOf (calls (length all + m) file freshReader) ≡ saidFrom (eventBy all (sourceOf file l)) placeOf 0 [] all ++ replicate m machine.ended
+      → answersOf (calls (length all + m) file freshReader) ≡ saidFrom (eventBy all (sourceOf file l)) (originOf all placeOf) 0 [] all ++ replicate m machine.ended
   read-said all placeOf shows m w =
       read-from all file (sourceOf file l) placeOf shows (laidOut file l) next-open freshReader (l .table) (replicate maxOpen noFrame) next-first refl m w

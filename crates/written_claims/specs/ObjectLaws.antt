@@ -15,7 +15,7 @@ use Rattle.object.specs.Object.{Found, objectAt}
 use Rattle.object.specs.Object as found
 use Rattle.layout.specs.Layout.{entryAt, lookIn, lookOf, sourceOf}
 use Rattle.layout.specs.Looked.{scalar}
-use Rattle.layout.specs.FoundLaws.{sound, plain-whole, whole-given}
+use Rattle.layout.specs.FoundLaws.{sound, plain-asked}
 use Rattle.layout.specs.LookLaws.{Bytes-right, bare-plain, look-right}
 use Rattle.layout.specs.Bytes.{noBytes, dataAsked, textAsked, eventAsked, hasBytes}
 use Rattle.layout.specs.declared.layout.Entry.the-variants.{Of}
@@ -46,7 +46,7 @@ module _ (file : List ℕ) (l : Layout) (n at : ℕ) (numbered : n < l .count) (
       go (found.refused number values) is says = absurd says
       go (found.scalar e) is says =
           let h : (found.scalar e ≡ found.scalar e) × Plain e = rw (is One) at (sound file One at) in
-          let given : eventAsked file e at ≡ noBytes = whole-given file e at (plain-whole e (h .1)) (is One) in
+          let given : eventAsked file e at ≡ noBytes = plain-asked file e at (h .1) in
           let look : lookOf file l n ≡ scalar e at = look-there file l n at numbered entry ∙ rw (is (l .refs)) in
           let right : Bytes-right file e (eventAsked file e at) = rw look at (look-right file l n) in
           record { event = e; look = look; means = says _; asks = rw given (bare-plain e (rw given at right)) }
@@ -60,17 +60,17 @@ module _ (file : List ℕ) (l : Layout) (n at : ℕ) (numbered : n < l .count) (
   unfolding sourceOf lookIn
   list-shown refs r = record {
     look = look-there file l n at numbered entry ∙ rw (r .is);
-    member = λ f i a h. due-there file l n at numbered entry f (a .object) ∙ rw (← a .stands) (r .member f (a .long) (rw (a .stands) h));
-    end = λ f a. due-there file l n at numbered entry f (a .object) ∙ r .end f (a .long) (a .stands);
+    member = λ f i a h. due-there file l n at numbered entry f (a .object) (a .kept) ∙ rw (← a .stands) (r .member f (a .long) (rw (a .stands) h));
+    end = λ f a. due-there file l n at numbered entry f (a .object) (a .kept) ∙ r .end f (a .long) (a .stands);
   }
 
   pairs-shown : (keys values : List ℕ) → DictionaryReads file l at keys values → PairsShown (sourceOf file l) n at keys values
   unfolding sourceOf lookIn
   pairs-shown keys values r = record {
     look = look-there file l n at numbered entry ∙ rw (r .is);
-    key = λ f i a h. due-there file l n at numbered entry f (a .object) ∙ r .key f (a .long) i h (a .stands);
-    value = λ f i a h. due-there file l n at numbered entry f (a .object) ∙ r .value f (a .long) i h (a .stands);
-    end = λ f a. due-there file l n at numbered entry f (a .object) ∙ r .end f (a .long) (a .stands);
+    key = λ f i a h. due-there file l n at numbered entry f (a .object) (a .kept) ∙ r .key f (a .long) i h (a .stands);
+    value = λ f i a h. due-there file l n at numbered entry f (a .object) (a .kept) ∙ r .value f (a .long) i h (a .stands);
+    end = λ f a. due-there file l n at numbered entry f (a .object) (a .kept) ∙ r .end f (a .long) (a .stands);
   }
 
   pub object-shown : (o : Object) → Fine (bytesIn (l .refs)) o → Whole file at (objectBytes (bytesIn (l .refs)) o) → Shown file (sourceOf file l) n at o

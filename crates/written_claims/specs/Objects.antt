@@ -111,10 +111,10 @@ module _ (es : List Piece) (g : Sound es) where
     look-holder = look-box es file src (placeOf es) (file-shows es g) p (b .kind) (b .post) (b .there) h even
 
     abbrev frameAt : ℕ → Frame
-    frameAt i = record { object = number es (box p); position = i; length = long }
+    frameAt i = record { object = number es (box p); position = i; length = long; offset = placeOf es (box p) }
 
     known : (i : ℕ) (r : List Name) → drop i ms ≡ r → i ≤ length ms → Known es file src (placeOf es) (file-shows es g) (suc p) p r (frameAt i)
-    known i r e u = record { kind = b .kind; post = b .post; before = omega arith; begins = b .there; named = h; obj-is = refl; len-is = refl; even = even; upto = u; rest = e }
+    known i r e u = record { kind = b .kind; post = b .post; before = omega arith; begins = b .there; named = h; obj-is = refl; at-is = refl; len-is = refl; even = even; upto = u; rest = e }
 
     -- the reference at a position is that of the member there
     listed : (i : ℕ) → i < length ms → getElem? (referencesOf file l (number es (box p))) i ≡ some (getD (map (number es) ms) i 0)

@@ -17,7 +17,7 @@ use Rattle.written.specs.Graph.{pieceOf}
 use Rattle.written_claims.specs.Accepted.{Accepted, layoutFor, sound}
 use Rattle.written_claims.specs.Back.{eventBy}
 use Rattle.written_claims.specs.FileBack as back
-use Rattle.written_claims.specs.Filled.{filled, handedOf, saidFrom}
+use Rattle.written_claims.specs.Filled.{filled, handedOf, originOf, saidFrom}
 use Rattle.written_claims.specs.FilledLaws.{handed-filled}
 use Rattle.written_claims.specs.HandsOut.{HandOut}
 
@@ -26,9 +26,10 @@ pub means-back : (ms : List Meaning) → Accepted ms → (m : ℕ) → answers (
 unfolding fileFor handedOf
 means-back ms a m = rw length-map at (back.told-back (map pieceOf ms) (sound ms a) m)
 
--- the reader's own answers, and that they hand that out: each event, and the bytes of its data or text wherever the scratch has room for them
+-- the reader's own answers, each with its object's number and offset; and that they hand that out: each event, and the bytes of its data or text
+-- wherever the scratch has room for them
 unfoldable pub saidOf : List Meaning → List Said
-saidOf ms = saidFrom (eventBy (map pieceOf ms) (sourceOf (fileFor ms) (layoutFor ms))) (placeOf (map pieceOf ms)) 0 [] (map pieceOf ms)
+saidOf ms = saidFrom (eventBy (map pieceOf ms) (sourceOf (fileFor ms) (layoutFor ms))) (originOf (map pieceOf ms) (placeOf (map pieceOf ms))) 0 [] (map pieceOf ms)
 
 pub said-back : (ms : List Meaning) → Accepted ms → (m : ℕ) → answersOf (calls (length ms + m) (fileFor ms) freshReader) ≡ saidOf ms ++ replicate m machine.ended
 unfolding fileFor saidOf

@@ -26,9 +26,10 @@ Fine w (lone m) = IsScalar m × OnTape m
 Fine w (list refs) = (length refs < 2 ^ 64) × Below (256 ^ w) refs
 Fine w (pairs keys values) = (length values ≡ length keys) × (length keys < 2 ^ 64) × Below (256 ^ w) (keys ++ values)
 
--- a frame of object n with so many elements or pairs, at a position
-pub record At (f : Frame) (n length position : ℕ) : Type 0 where
+-- a frame of object n, kept with its offset, with so many elements or pairs, at a position
+pub record At (f : Frame) (n offset length position : ℕ) : Type 0 where
   pub object : f .object ≡ n
+  pub kept : f .offset ≡ offset
   pub long : f .length ≡ length
   pub stands : f .position ≡ position
 
@@ -50,15 +51,15 @@ pub record Looks (file : List ℕ) (src : Source) (n at : ℕ) (m : Meaning) : T
 -- an array is looked up with its length; each reference is due in turn, then the end
 pub record ListShown (src : Source) (n at : ℕ) (refs : List ℕ) : Type 0 where
   pub look : src .look n ≡ container array (length refs) at
-  pub member : (f : Frame) (i : ℕ) → At f n (length refs) i → i < length refs → src .due f ≡ Member (getD refs i 0)
-  pub end : (f : Frame) → At f n (length refs) (length refs) → src .due f ≡ Close at
+  pub member : (f : Frame) (i : ℕ) → At f n at (length refs) i → i < length refs → src .due f ≡ Member (getD refs i 0)
+  pub end : (f : Frame) → At f n at (length refs) (length refs) → src .due f ≡ Close at
 
 -- so is a dictionary; key and value in turn
 pub record PairsShown (src : Source) (n at : ℕ) (keys values : List ℕ) : Type 0 where
   pub look : src .look n ≡ container dictionary (length keys) at
-  pub key : (f : Frame) (i : ℕ) → At f n (length keys) (2 * i) → i < length keys → src .due f ≡ Member (getD keys i 0)
-  pub value : (f : Frame) (i : ℕ) → At f n (length keys) (2 * i + 1) → i < length keys → src .due f ≡ Member (getD values i 0)
-  pub end : (f : Frame) → At f n (length keys) (2 * length keys) → src .due f ≡ Close at
+  pub key : (f : Frame) (i : ℕ) → At f n at (length keys) (2 * i) → i < length keys → src .due f ≡ Member (getD keys i 0)
+  pub value : (f : Frame) (i : ℕ) → At f n at (length keys) (2 * i + 1) → i < length keys → src .due f ≡ Member (getD values i 0)
+  pub end : (f : Frame) → At f n at (length keys) (2 * length keys) → src .due f ≡ Close at
 
 -- object n, at an offset, is shown as it is
 abbrev pub Shown : List ℕ → Source → ℕ → ℕ → Object → Type 0

@@ -12,11 +12,11 @@ use Rattle.unicode.proofs.Writing.{sets-append}
 use Rattle.event.specs.Meaning.{meaningOf}
 use Rattle.layout.specs.Bytes.{hasBytes, eventAsked}
 use Rattle.reader.specs.Calls.{calls, answersOf}
-use Rattle.reader.specs.Machine.{Said, recordOf}
+use Rattle.reader.specs.Machine.{Said}
 use Rattle.reader.specs.Machine as machine
 use Rattle.reader.specs.Meanings.{bytesAsked, meaningAt}
 use Rattle.reader.specs.Next.{nextOf}
-use Rattle.reader.specs.Request.{askedOf, scratchAfter}
+use Rattle.reader.specs.Request.{scratchAfter}
 use Rattle.reader.specs.declared.state.Reader.{Reader}
 use Rattle.tape.specs.Append.{appendOf, appendTo, putOf, putTo, fits}
 use Rattle.tape.specs.Code.{bytesFor, allowed}
@@ -36,36 +36,36 @@ module _ (file : List ℕ) (p : Put) (x : Said) (h : HandsOut file p x) (scratch
   abbrev own : List ℕ
   own = bytesFor (p .meaning)
 
-  pub note-lacks : length scratch < scratchFor (p .meaning) → noteOf file scratch tape held (recordOf (h .e) (p .offset)) ≡ noting (note.refused 16 [] (p .offset)) tape scratch
+  pub note-lacks : length scratch < scratchFor (p .meaning) → noteOf file scratch tape held (h .e) (p .offset) ≡ noting (note.refused 16 [] (p .offset)) tape scratch
   unfolding noteOf textNote
   note-lacks less =
       let k = h .lacks scratch less in
-      rw (k .has, k .first, textNote, k .kept)
+      rw (k .has, rw (h .asks) at (k .first), textNote, rw (h .asks) at (k .kept))
 
   module _ (room : scratchFor (p .meaning) ≤ length scratch) where
     -- it is appended by its meaning
-    noted : (s : List ℕ) × (length s ≡ length scratch) × (noteOf file scratch tape held (recordOf (h .e) (p .offset)) ≡ putNote s tape held (p .meaning))
+    noted : (s : List ℕ) × (length s ≡ length scratch) × (noteOf file scratch tape held (h .e) (p .offset) ≡ putNote s tape held (p .meaning))
     unfolding noteOf textNote meaningAt
     noted = go (hasBytes (h .e)) refl
       where
         asked : List ℕ
         asked = bytesAsked file (eventAsked file (h .e) (p .offset))
 
-        go : (b : Bool) → hasBytes (h .e) ≡ b → (s : List ℕ) × (length s ≡ length scratch) × (noteOf file scratch tape held (recordOf (h .e) (p .offset)) ≡ putNote s tape held (p .meaning))
+        go : (b : Bool) → hasBytes (h .e) ≡ b → (s : List ℕ) × (length s ≡ length scratch) × (noteOf file scratch tape held (h .e) (p .offset) ≡ putNote s tape held (p .meaning))
         go false f = (scratch, refl, rw f (ap (putNote scratch tape held) (sym (plain-same (h .e) asked f) ∙ h .means)))
         go true f =
-            let k = h .gives scratch room in
+            let k = rw (h .asks) at (h .gives scratch room) in
             let c : contentOf (p .meaning) ≡ asked = ap contentOf (sym (h .means)) ∙ content-is (h .e) asked f in
-            let after : List ℕ = scratchAfter file scratch (askedOf file (recordOf (h .e) (p .offset))) in
+            let after : List ℕ = scratchAfter file scratch (eventAsked file (h .e) (p .offset)) in
             (after, k .scratch-is, rw (f, k .first, textNote, k .second) (ap (putNote after tape held) (ap (meaningOf (h .e)) c ∙ h .means)))
 
     module _ (ok : allowed (p .meaning) ≡ true) where
-      pub note-full : length tape < held + length own → (s : List ℕ) × (noteOf file scratch tape held (recordOf (h .e) (p .offset)) ≡ noting (note.refused 27 [] held) tape s)
+      pub note-full : length tape < held + length own → (s : List ℕ) × (noteOf file scratch tape held (h .e) (p .offset) ≡ noting (note.refused 27 [] held) tape s)
       unfolding putNote fromTape appendOf appendTo putOf putTo fits
       note-full less = (noted .0, noted .2 ∙ rw (ok, lt-leb (held + length own) (length tape) less))
 
       pub note-kept : held + length own ≤ length tape
-          → (s : List ℕ) × (length s ≡ length scratch) × (noteOf file scratch tape held (recordOf (h .e) (p .offset)) ≡ noting (kept (held + length own)) (sets tape held own) s)
+          → (s : List ℕ) × (length s ≡ length scratch) × (noteOf file scratch tape held (h .e) (p .offset) ≡ noting (kept (held + length own)) (sets tape held own) s)
       unfolding putNote fromTape appendOf appendTo putOf putTo fits
       note-kept fit = (noted .0, noted .1, noted .2 ∙ rw (ok, le-leb (held + length own) (length tape) fit))
 

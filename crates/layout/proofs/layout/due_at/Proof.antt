@@ -4,15 +4,15 @@ use Rattle.layout.specs.Layout.{dueOf}
 use Rattle.layout.proofs.layout.due_at.Statement.{statement}
 use Rattle.layout.proofs.layout.due_at.Tie as tie
 
-stands-at-requires : tie.Need-stands-at-requires
-stands-at-requires c κs = search needs
+stands-in-requires : tie.Need-stands-in-requires
+stands-in-requires c κs = search needs
 
 due-in-requires : tie.Need-due-in-requires
 due-in-requires c κs = search needs
 
 returns : tie.Need-returns
 unfolding dueOf
-returns c = rw (← c .before .stands-at .ensures) (c .due-in .ensures)
+returns c = rw (← c .before .stands-in .ensures) (c .due-in .ensures)
 
 pub due-at-spec : {M : Type 1} → statement M
-due-at-spec = tie.close (tie.spec stands-at-requires due-in-requires returns)
+due-at-spec = tie.close (tie.spec stands-in-requires due-in-requires returns)

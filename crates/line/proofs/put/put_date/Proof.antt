@@ -1,7 +1,7 @@
 -- `put_date` puts the day and time that the calendar gives, or the bits.
 use mathlib.Core.Path.{sym, ap, _∙_}
 use Rattle.calendar.specs.Date.{datedSaid}
-use Rattle.line.specs.Line.{dateLine, dated}
+use Rattle.line.specs.Line.{dateRow, dated}
 use Rattle.line.specs.Piece.{numeralOf}
 use borrow.Author.Needs.{needs}
 use Rattle.line.proofs.put.put_date.Statement.{statement}
@@ -26,7 +26,7 @@ same-length : tie.Need-same-length
 same-length c = search needs
 
 returns : tie.Need-returns
-unfolding datedSaid dateLine dated
+unfolding datedSaid dateRow dated
 returns c =
     let e = sym (c .before .before .before .before .before .before .before .calendar-of .ensures) ∙ ap datedSaid (c .before .before .before .before .before .enum-told .given .1) in
     rw e (c .before .before .put-bits .ensures)
@@ -44,7 +44,7 @@ same-length-2 : tie.Need-same-length-2
 same-length-2 c = search needs
 
 returns-2 : tie.Need-returns-2
-unfolding datedSaid dateLine dated numeralOf
+unfolding datedSaid dateRow dated numeralOf
 returns-2 c =
     let e = sym (c .before .before .before .before .before .before .before .before .before .calendar-of .ensures) ∙ ap datedSaid (c .before .before .before .before .before .before .before .time .given .1) in
     rw e (c .before .before .put-row .ensures)

@@ -1,8 +1,9 @@
--- `put_event` puts the line of what the event means: each kind is one row.
+-- `put_event` puts the line of what the event means: each kind is one row, the mark is the same.
 use mathlib.Core.Path.{refl}
 use Rattle.event.specs.Meaning.{meaningOf}
-use Rattle.line.specs.Line.{lineOf, truth}
+use Rattle.line.specs.Line.{rowOf, truth}
 use Rattle.line.specs.Piece.{numeralOf}
+use Rattle.line.specs.Put.{eventLine}
 use borrow.Author.Needs.{needs}
 use Rattle.line.proofs.put.put_event.Statement.{statement}
 use Rattle.line.proofs.put.put_event.Tie as tie
@@ -143,84 +144,84 @@ same-length : tie.Need-same-length
 same-length c = search needs
 
 returns : tie.Need-returns
-unfolding lineOf meaningOf
+unfolding eventLine rowOf meaningOf
 returns c = rw (c .before .before .before .before .before .before .before .before .event .given .1, ← c .before .before .before .before .given .ensures) (c .before .before .put-row .ensures)
 
 same-length-2 : tie.Need-same-length-2
 same-length-2 c = search needs
 
 returns-2 : tie.Need-returns-2
-unfolding lineOf meaningOf
+unfolding eventLine rowOf meaningOf
 returns-2 c = rw (c .before .before .before .before .before .before .before .before .event2 .given .1, ← c .before .before .before .before .given2 .ensures) (c .before .before .put-row2 .ensures)
 
 same-length-3 : tie.Need-same-length-3
 same-length-3 c = search needs
 
 returns-3 : tie.Need-returns-3
-unfolding lineOf meaningOf numeralOf
+unfolding eventLine rowOf meaningOf numeralOf
 returns-3 c = rw (c .before .before .before .before .before .before .enum-told .given .1) (c .before .before .put-row3 .ensures)
 
 same-length-4 : tie.Need-same-length-4
 same-length-4 c = search needs
 
 returns-4 : tie.Need-returns-4
-unfolding lineOf meaningOf numeralOf truth
+unfolding eventLine rowOf meaningOf numeralOf truth
 returns-4 c = rw (c .before .before .before .before .before .before .before .before .event3 .given .1, c .before .before .before .before .before .before .if1 .taken) (c .before .before .put-row4 .ensures)
 
 same-length-5 : tie.Need-same-length-5
 same-length-5 c = search needs
 
 returns-5 : tie.Need-returns-5
-unfolding lineOf meaningOf numeralOf truth
+unfolding eventLine rowOf meaningOf numeralOf truth
 returns-5 c = rw (c .before .before .before .before .before .before .before .before .event3 .given .1, c .before .before .before .before .before .before .if1 .left) (c .before .before .put-row5 .ensures)
 
 same-length-6 : tie.Need-same-length-6
 same-length-6 c = search needs
 
 returns-6 : tie.Need-returns-6
-unfolding lineOf meaningOf numeralOf
+unfolding eventLine rowOf meaningOf numeralOf
 returns-6 c = rw (c .before .before .before .before .before .enum-told2 .given .1) (c .before .before .put-row6 .ensures)
 
 same-length-7 : tie.Need-same-length-7
 same-length-7 c = search needs
 
 returns-7 : tie.Need-returns-7
-unfolding lineOf meaningOf
+unfolding eventLine rowOf meaningOf
 returns-7 c = rw (c .before .before .before .before .before .event4 .given .1) (c .before .before .put-date .ensures)
 
 same-length-8 : tie.Need-same-length-8
 same-length-8 c = search needs
 
 returns-8 : tie.Need-returns-8
-unfolding lineOf meaningOf numeralOf
+unfolding eventLine rowOf meaningOf numeralOf
 returns-8 c = rw (c .before .before .before .before .before .before .before .event5 .given .1) (c .before .before .put-row7 .ensures)
 
 same-length-9 : tie.Need-same-length-9
 same-length-9 c = search needs
 
 returns-9 : tie.Need-returns-9
-unfolding lineOf meaningOf
+unfolding eventLine rowOf meaningOf
 returns-9 c = rw (c .before .before .before .before .before .before .before .event6 .given .1, ← c .before .before .before .float-bits .ensures) (c .before .before .put-bits .ensures)
 
 same-length-10 : tie.Need-same-length-10
 same-length-10 c = search needs
 
 returns-10 : tie.Need-returns-10
-unfolding lineOf meaningOf
+unfolding eventLine rowOf meaningOf
 returns-10 c = rw (c .before .before .before .before .before .before .event7 .given .1) (c .before .before .put-bits2 .ensures)
 
 same-length-11 : tie.Need-same-length-11
 same-length-11 c = search needs
 
 returns-11 : tie.Need-returns-11
-unfolding lineOf meaningOf numeralOf
+unfolding eventLine rowOf meaningOf numeralOf
 returns-11 c = rw (c .before .before .before .before .before .enum-told3 .given .1) (c .before .before .put-row8 .ensures)
 
 same-length-12 : tie.Need-same-length-12
 same-length-12 c = search needs
 
 returns-12 : tie.Need-returns-12
-unfolding lineOf meaningOf numeralOf
+unfolding eventLine rowOf meaningOf numeralOf
 returns-12 c = rw (c .before .before .before .before .before .before .before .event8 .given .1) (c .before .before .put-row9 .ensures)
 
 pub put-event-spec : {M : Type 1} → statement M

@@ -1,6 +1,6 @@
 -- `put_fixed` puts the word.
 use mathlib.Core.Path.{refl}
-use Rattle.line.specs.Piece.{numeralOf}
+use Rattle.line.specs.Piece.{numeralOf, markOf}
 use Rattle.line.specs.Put.{fixedLine}
 use borrow.Author.Needs.{needs}
 use Rattle.line.proofs.put.put_fixed.Statement.{statement}
@@ -46,21 +46,21 @@ same-length : tie.Need-same-length
 same-length c = search needs
 
 returns : tie.Need-returns
-unfolding fixedLine numeralOf
+unfolding fixedLine numeralOf markOf
 returns c = rw (c .before .before .before .before .before .before .enum-told .given .1) (c .before .before .put-row .ensures)
 
 same-length-2 : tie.Need-same-length-2
 same-length-2 c = search needs
 
 returns-2 : tie.Need-returns-2
-unfolding fixedLine numeralOf
+unfolding fixedLine numeralOf markOf
 returns-2 c = rw (c .before .before .before .before .before .before .enum-told2 .given .1) (c .before .before .put-row2 .ensures)
 
 same-length-3 : tie.Need-same-length-3
 same-length-3 c = search needs
 
 returns-3 : tie.Need-returns-3
-unfolding fixedLine numeralOf
+unfolding fixedLine numeralOf markOf
 returns-3 c = rw (c .before .before .before .before .before .before .enum-told3 .given .1) (c .before .before .put-row3 .ensures)
 
 pub put-fixed-spec : {M : Type 1} → statement M

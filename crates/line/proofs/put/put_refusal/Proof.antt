@@ -9,9 +9,9 @@ use Rattle.digits.specs.Ascii.{ascii}
 use Rattle.digits.specs.Digits.{decimal}
 use Rattle.digits.specs.Put.{Written}
 use Rattle.digits.specs.PutLaws.{put-fits, put-unfit, written-append, written-length}
-use Rattle.line.specs.Line.{refusalLine, spaced, tail}
-use Rattle.line.specs.LineLaws.{length-row, length-refusal}
-use Rattle.line.specs.Piece.{numeralOf, spaceOf, lineSize}
+use Rattle.line.specs.Line.{refusalLine, row, spaced, tail}
+use Rattle.line.specs.LineLaws.{length-row, length-ended, length-refusal}
+use Rattle.line.specs.Piece.{numeralOf, markOf, spaceOf, lineSize}
 use borrow.Author.Needs.{needs}
 use Rattle.line.proofs.put.put_refusal.Statement.{statement}
 use Rattle.line.proofs.put.put_refusal.Tie as tie
@@ -68,17 +68,18 @@ slice-aggregate-write-row-2 : tie.Need-slice-aggregate-write-row-2
 slice-aggregate-write-row-2 c = search needs
 
 write-row-requires : tie.Need-write-row-requires
-unfolding numeralOf tail
+unfolding numeralOf markOf tail
 write-row-requires c κs =
     let w = c .before .before .before .before .before .before in
     let n = c .before .before .before .before .before .write-numeral .ensures in
-    omega (arith, room (fitting w), length-row (ascii " at") (spaced (decimal (fitting w .before .before .before .before .before .args .place))) [], n .place, written-length n, written-length (word w))
+    let place = spaced (decimal (fitting w .before .before .before .before .before .args .place)) in
+    omega (arith, room (fitting w), length-ended (row (ascii " at") place []) [], length-row (ascii " at") place [], n .place, written-length n, written-length (word w))
 
 same-length : tie.Need-same-length
 same-length c = search needs
 
 returns : tie.Need-returns
-unfolding refusalLine numeralOf
+unfolding refusalLine numeralOf markOf
 returns c =
     let w = c .before .before .before .before .before .before .before .before .before in
     let t = fitting w in

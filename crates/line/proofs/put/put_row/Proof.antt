@@ -1,27 +1,42 @@
 -- `put_row` writes a line where it was measured to fit, and nothing where not.
 use mathlib.Core.Path.{_≡_, sym, _∙_}
+use Prim.Native.Nat.{_+_}
 use native.Mathlib.Omega.{arith}
 use borrow.Author.Needs.{needs}
 use borrow.Author.Tests.{leb-true}
 use lib.ListN.{length}
 use Rattle.digits.specs.PutLaws.{put-fits, put-unfit, written-length}
-use Rattle.line.specs.Line.{row}
-use Rattle.line.specs.LineLaws.{length-row, length-tail}
-use Rattle.line.specs.Piece.{numeralOf, lineSize}
+use Rattle.line.specs.Line.{row, ended}
+use Rattle.line.specs.LineLaws.{length-row, length-ended, length-tail}
+use Rattle.line.specs.Piece.{numeralOf, markOf, lineSize}
 use Rattle.line.proofs.put.put_row.Statement.{statement}
 use Rattle.line.proofs.put.put_row.Tie as tie
 
 numeral-length-requires : tie.Need-numeral-length-requires
 numeral-length-requires c κs = search needs
 
+mark-length-requires : tie.Need-mark-length-requires
+mark-length-requires c κs = search needs
+
+add-numbers : tie.Need-add-numbers
+add-numbers c = search needs
+
 has-room-requires : tie.Need-has-room-requires
 has-room-requires c κs = search needs
 
 -- what was measured is as long as the line
-measured : (c : tie.After-has-room) → let a = c .before .before .before .before .before .args in lineSize (length (a .word .now)) (c .before .numeral-length .result) (length (a .bytes .now)) ≡ length (row (a .word .now) (numeralOf (a .number)) (a .bytes .now))
+measured : (c : tie.After-has-room) → let a = c .before .before .before .before .before .before .args in lineSize (length (a .word .now)) (c .before .before .numeral-length .result + c .before .mark-length .result) (length (a .bytes .now)) ≡ length (ended (row (a .word .now) (numeralOf (a .number)) (a .bytes .now)) (markOf (a .mark)))
 measured c =
-    let a = c .before .before .before .before .before .args in
-    omega (arith, length-row (a .word .now) (numeralOf (a .number)) (a .bytes .now), length-tail (a .bytes .now), c .before .numeral-length .ensures .0)
+    let a = c .before .before .before .before .before .before .args in
+    let r = row (a .word .now) (numeralOf (a .number)) (a .bytes .now) in
+    omega (
+      arith,
+      length-ended r (markOf (a .mark)),
+      length-row (a .word .now) (numeralOf (a .number)) (a .bytes .now),
+      length-tail (a .bytes .now),
+      c .before .before .numeral-length .ensures .0,
+      c .before .mark-length .ensures .0,
+    )
 
 write-row-requires : tie.Need-write-row-requires
 write-row-requires c κs =
@@ -44,6 +59,8 @@ put-row-spec =
     tie.close
     (tie.spec
     numeral-length-requires
+    mark-length-requires
+    add-numbers
     has-room-requires
     write-row-requires
     same-length

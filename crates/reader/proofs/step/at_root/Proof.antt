@@ -3,11 +3,12 @@ use mathlib.Core.Path.{_≡_, sym, ap, _∙_}
 use native.Mathlib.Omega.{arith}
 use borrow.Author.Needs.{needs}
 use Rattle.layout.specs.Layout.{lookOf}
+use Rattle.layout.specs.ListedLaws.{scalar-seen}
 use Rattle.layout.specs.LookLaws.{look-right, placed-scalar, placed-container}
 use Rattle.layout.specs.Looked.{container}
 use Rattle.layout.specs.Said.{lookSaid, shapeSaid}
 use Rattle.layout.specs.SaidLaws.{number-listed}
-use Rattle.layout.proofs.Counts.{numbered, measured}
+use Rattle.layout.proofs.Counts.{numbered, measured, stands-before}
 use Rattle.reader.specs.Machine.{enter, arrive}
 use Rattle.reader.specs.Next.{laidOut}
 use Rattle.reader.specs.NextLaws.{arrive-refused, arrive-missing}
@@ -45,6 +46,12 @@ ended-requires c κs = search needs
 enum-known-event : tie.Need-enum-known-event
 enum-known-event c = search needs
 
+cast-handed : tie.Need-cast-handed
+unfolding lookSaid
+cast-handed c =
+    let a = c .before .before .before .before .before .before .args in
+    omega (arith, scalar-seen (a .file .now) (a .layout) (a .root) _ _ (placed-scalar _ _ _ _ (sym (c .before .before .before .look-up .ensures .0) ∙ ap lookSaid (c .before .event .given .1))) .numbered)
+
 handed-requires : tie.Need-handed-requires
 handed-requires c κs = search needs
 
@@ -54,21 +61,31 @@ enum-known-shape c = search needs
 laid-out-requires-2 : tie.Need-laid-out-requires-2
 laid-out-requires-2 c κs = search needs
 
-cast-t23 : tie.Need-cast-t23
-cast-t23 c =
+cast-handed-2 : tie.Need-cast-handed-2
+cast-handed-2 c =
     let a = c .before .before .before .before .before .before .before .args in
     omega (arith, numbered (a .file .now) (a .layout) (a .root) _ _ _ (found-container (c .before .before)))
 
-cast-t24 : tie.Need-cast-t24
-cast-t24 c =
+cast-t25 : tie.Need-cast-t25
+cast-t25 c =
     let a = c .before .before .before .before .before .before .before .args in
     omega (arith, measured (a .file .now) (a .layout) (a .root) _ _ _ (found-container (c .before .before)))
+
+cast-t26 : tie.Need-cast-t26
+cast-t26 c =
+    let a = c .before .before .before .before .before .before .before .args in
+    omega (arith, stands-before (a .file .now) (a .layout) (a .root) _ _ _ (found-container (c .before .before)))
 
 element-set-from-reader : tie.Need-element-set-from-reader
 element-set-from-reader c = search needs
 
 start-of-requires : tie.Need-start-of-requires
 start-of-requires c κs = search needs
+
+cast-handed-3 : tie.Need-cast-handed-3
+cast-handed-3 c =
+    let a = c .before .before .before .before .before .before .before .before .args in
+    omega (arith, numbered (a .file .now) (a .layout) (a .root) _ _ _ (found-container (c .before .before .before)))
 
 handed-requires-2 : tie.Need-handed-requires-2
 handed-requires-2 c κs = search needs
@@ -108,13 +125,16 @@ at-root-spec =
     enum-known-refusal
     ended-requires
     enum-known-event
+    cast-handed
     handed-requires
     enum-known-shape
     laid-out-requires-2
-    cast-t23
-    cast-t24
+    cast-handed-2
+    cast-t25
+    cast-t26
     element-set-from-reader
     start-of-requires
+    cast-handed-3
     handed-requires-2
     returns
     returns-2

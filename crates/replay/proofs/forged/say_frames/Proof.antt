@@ -7,10 +7,10 @@ use Rattle.replay.proofs.forged.say_frames.Statement.{statement}
 use Rattle.replay.proofs.forged.say_frames.Tie as tie
 
 abbrev Inv-loop : tie.InvT-loop
-Inv-loop reader shown i₀ t6 t7 t8 i = (length t6 ≡ 1) × (length t7 ≡ 1) × (length t8 ≡ 1)
+Inv-loop reader shown i₀ t6 t7 t8 t9 i = (length t6 ≡ 1) × (length t7 ≡ 1) × (length t8 ≡ 1) × (length t9 ≡ 1)
 
 abbrev μ-loop : tie.MeasureT-loop
-μ-loop reader shown i₀ t6 t7 t8 i = shown - i
+μ-loop reader shown i₀ t6 t7 t8 t9 i = shown - i
 
 shown-frames-requires : tie.Need-shown-frames-requires Inv-loop μ-loop
 shown-frames-requires c κs = search needs
@@ -51,6 +51,15 @@ slice-aggregate-say-number-3 c = search needs
 say-number-requires-3 : tie.Need-say-number-requires-3 Inv-loop μ-loop
 say-number-requires-3 c κs = search needs
 
+cast-say-number-4 : tie.Need-cast-say-number-4 Inv-loop μ-loop
+cast-say-number-4 c = search needs
+
+slice-aggregate-say-number-4 : tie.Need-slice-aggregate-say-number-4 Inv-loop μ-loop
+slice-aggregate-say-number-4 c = search needs
+
+say-number-requires-4 : tie.Need-say-number-requires-4 Inv-loop μ-loop
+say-number-requires-4 c κs = search needs
+
 add-i : tie.Need-add-i Inv-loop μ-loop
 add-i c = search needs
 
@@ -82,6 +91,9 @@ say-frames-spec =
     cast-say-number-3
     slice-aggregate-say-number-3
     say-number-requires-3
+    cast-say-number-4
+    slice-aggregate-say-number-4
+    say-number-requires-4
     add-i
     loop-less
     loop-again

@@ -14,6 +14,9 @@ after-requires-2 c κs = search needs
 after-requires-3 : tie.Need-after-requires-3
 after-requires-3 c κs = search needs
 
+after-requires-4 : tie.Need-after-requires-4
+after-requires-4 c κs = search needs
+
 number-requires : tie.Need-number-requires
 number-requires c κs = search needs
 
@@ -22,6 +25,9 @@ number-requires-2 c κs = search needs
 
 event-of-requires : tie.Need-event-of-requires
 event-of-requires c κs = search needs
+
+word-requires : tie.Need-word-requires
+word-requires c κs = search needs
 
 number-requires-3 : tie.Need-number-requires-3
 number-requires-3 c κs = search needs
@@ -60,9 +66,11 @@ say-request-spec =
     after-requires
     after-requires-2
     after-requires-3
+    after-requires-4
     number-requires
     number-requires-2
     event-of-requires
+    word-requires
     number-requires-3
     blank-requires
     number-requires-4

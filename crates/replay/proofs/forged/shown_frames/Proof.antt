@@ -32,6 +32,9 @@ returns-2 c = search needs
 returns-3 : tie.Need-returns-3 Inv-loop μ-loop
 returns-3 c = search needs
 
+returns-4 : tie.Need-returns-4 Inv-loop μ-loop
+returns-4 c = search needs
+
 sub-n : tie.Need-sub-n Inv-loop μ-loop
 sub-n c = search needs
 
@@ -41,8 +44,8 @@ loop-less c = search needs
 loop-again : tie.Need-loop-again Inv-loop μ-loop
 loop-again c = search needs
 
-returns-4 : tie.Need-returns-4 Inv-loop μ-loop
-returns-4 c = search needs
+returns-5 : tie.Need-returns-5 Inv-loop μ-loop
+returns-5 c = search needs
 
 pub shown-frames-spec : {M : Type 1} → statement M
 shown-frames-spec =
@@ -57,7 +60,8 @@ shown-frames-spec =
     returns
     returns-2
     returns-3
+    returns-4
     sub-n
     loop-less
     loop-again
-    returns-4)
+    returns-5)

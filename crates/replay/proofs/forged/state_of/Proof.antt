@@ -68,6 +68,9 @@ after-requires-9 c κs = search needs
 after-requires-10 : tie.Need-after-requires-10 Inv-loop μ-loop
 after-requires-10 c κs = search needs
 
+after-requires-11 : tie.Need-after-requires-11 Inv-loop μ-loop
+after-requires-11 c κs = search needs
+
 word-requires-4 : tie.Need-word-requires-4 Inv-loop μ-loop
 word-requires-4 c κs = search needs
 
@@ -77,14 +80,17 @@ word-requires-5 c κs = search needs
 word-requires-6 : tie.Need-word-requires-6 Inv-loop μ-loop
 word-requires-6 c κs = search needs
 
-mul-t32 : tie.Need-mul-t32 Inv-loop μ-loop
-mul-t32 c = search needs
+word-requires-7 : tie.Need-word-requires-7 Inv-loop μ-loop
+word-requires-7 c κs = search needs
+
+mul-t34 : tie.Need-mul-t34 Inv-loop μ-loop
+mul-t34 c = search needs
 
 element-set-from-reader : tie.Need-element-set-from-reader Inv-loop μ-loop
 element-set-from-reader c = search needs
 
-after-requires-11 : tie.Need-after-requires-11 Inv-loop μ-loop
-after-requires-11 c κs = search needs
+after-requires-12 : tie.Need-after-requires-12 Inv-loop μ-loop
+after-requires-12 c κs = search needs
 
 add-i : tie.Need-add-i Inv-loop μ-loop
 add-i c = search needs
@@ -123,12 +129,14 @@ state-of-spec =
     loop-holds
     after-requires-9
     after-requires-10
+    after-requires-11
     word-requires-4
     word-requires-5
     word-requires-6
-    mul-t32
+    word-requires-7
+    mul-t34
     element-set-from-reader
-    after-requires-11
+    after-requires-12
     add-i
     loop-less
     loop-again

@@ -6,10 +6,10 @@ use Rattle.say.proofs.list.list.Statement.{statement}
 use Rattle.say.proofs.list.list.Tie as tie
 
 abbrev Inv-loop : tie.InvT-loop
-Inv-loop to file scratch₀ line₀ reader₀ left₀ scratch line reader left = (length scratch ≡ length scratch₀) × (length line ≡ length line₀)
+Inv-loop to file scratch₀ line₀ traced reader₀ left₀ scratch line reader left = (length scratch ≡ length scratch₀) × (length line ≡ length line₀)
 
 abbrev μ-loop : tie.MeasureT-loop
-μ-loop to file scratch₀ line₀ reader₀ left₀ scratch line reader left = left
+μ-loop to file scratch₀ line₀ traced reader₀ left₀ scratch line reader left = left
 
 say-fixed-requires : tie.Need-say-fixed-requires Inv-loop μ-loop
 say-fixed-requires c κs = search needs

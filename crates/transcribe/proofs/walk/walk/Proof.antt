@@ -23,7 +23,7 @@ use Rattle.transcribe.specs.Said.{noteSaid, endSaid}
 use Rattle.transcribe.specs.Run.{onward}
 use Rattle.transcribe.specs.Walk.{Below}
 use Rattle.transcribe.proofs.Listed.{Listed, close-below, enter-below}
-use Rattle.transcribe.proofs.Walking.{Stands, leftOf, due, looked, short-number, short-length, Turn, call-root, is-wrong, close-fails, close-finishes, close-goes, is-missing, is-refused, notable, counts, scalar-fails, scalar-finishes, scalar-goes, scalar-stands, is-open-now, is-deep, enter-fails, enter-goes, enter-stands, still-long, sought, close-lists, scalar-lists, enter-lists}
+use Rattle.transcribe.proofs.Walking.{Stands, leftOf, due, looked, short-number, short-length, short-offset, Turn, call-root, is-wrong, close-fails, close-finishes, close-goes, is-missing, is-refused, notable, counts, scalar-fails, scalar-finishes, scalar-goes, scalar-stands, is-open-now, is-deep, enter-fails, enter-goes, enter-stands, still-long, sought, close-lists, scalar-lists, enter-lists}
 use Rattle.transcribe.proofs.walk.walk.Statement.{statement}
 use Rattle.transcribe.proofs.walk.walk.Tie as tie
 
@@ -231,17 +231,17 @@ mul-frames c = search needs
 array-set-from-frames : tie.Need-array-set-from-frames Inv-loop μ-loop
 array-set-from-frames c = search needs
 
-sub-stands-at : tie.Need-sub-stands-at Inv-loop μ-loop
-sub-stands-at c = search needs
+sub-stands-in : tie.Need-sub-stands-in Inv-loop μ-loop
+sub-stands-in c = search needs
 
-mul-stands-at : tie.Need-mul-stands-at Inv-loop μ-loop
-mul-stands-at c = search needs
+mul-stands-in : tie.Need-mul-stands-in Inv-loop μ-loop
+mul-stands-in c = search needs
 
-element-copy-out-stands-at : tie.Need-element-copy-out-stands-at Inv-loop μ-loop
-element-copy-out-stands-at c = search needs
+array-copy-out-stands-in : tie.Need-array-copy-out-stands-in Inv-loop μ-loop
+array-copy-out-stands-in c = search needs
 
-stands-at-requires : tie.Need-stands-at-requires Inv-loop μ-loop
-stands-at-requires c κs = search needs
+stands-in-requires : tie.Need-stands-in-requires Inv-loop μ-loop
+stands-in-requires c κs = search needs
 
 loop-less : tie.Need-loop-less Inv-loop μ-loop
 loop-less c = search needs
@@ -249,15 +249,15 @@ loop-less c = search needs
 loop-again : tie.Need-loop-again Inv-loop μ-loop
 unfolding noteSaid
 loop-again c =
-    let n = c .before .before .before .before .before .before .before in
+    let n = c .before .before .before .before .before .before .before .before in
     let x = end-turn n in (
       x .same-scratch,
       n .note-end .kept .0 ∙ x .same-tape,
       omega (arith, x .at, x .fits),
-      λ e. absurd (c .before .if1 .left e),
-      close-goes x _ (due-close (n .before .before)) _ _ (n .note-end .ensures .0) (n .note-end .ensures .1) (c .before .if1 .left) _ (ap noteSaid (c .before .before .before .n .given .1)),
+      λ e. absurd (c .before .before .if1 .left e),
+      close-goes x _ (due-close (n .before .before)) _ _ (n .note-end .ensures .0) (n .note-end .ensures .1) (c .before .before .if1 .left) _ (ap noteSaid (c .before .before .before .before .n .given .1)),
       search needs,
-      λ e. c .stands-at .ensures,
+      λ e. c .stands-in .ensures,
       x .many,
       close-lists x,
       close-below (x .depth) (x .top) _ (x .numbers) (omega (arith, x .at)) (x .below),
@@ -500,10 +500,15 @@ mul-numbers c = search needs
 array-write-numbers : tie.Need-array-write-numbers Inv-loop μ-loop
 array-write-numbers c = search needs
 
+cast-t81 : tie.Need-cast-t81 Inv-loop μ-loop
+cast-t81 c =
+    let k = start-met (c .before .before .before .before .before .before) in
+    omega (arith, short-length (met-turn k) _ _ _ _ (found-container (met-shape k)))
+
 cast-t82 : tie.Need-cast-t82 Inv-loop μ-loop
 cast-t82 c =
     let k = start-met (c .before .before .before .before .before .before) in
-    omega (arith, short-length (met-turn k) _ _ _ _ (found-container (met-shape k)))
+    omega (arith, short-offset (met-turn k) _ _ _ _ (found-container (met-shape k)))
 
 mul-frames-6 : tie.Need-mul-frames-6 Inv-loop μ-loop
 mul-frames-6 c = search needs
@@ -545,7 +550,7 @@ loop-again-3 c =
       still-long x _ _,
       enter-stands x _ d _ _ _ f h _ (c .before .container-at .ensures),
       rw length-set (x .many),
-      enter-lists x h _ _,
+      enter-lists x h _ _ _,
       enter-below (x .depth) _ _ _ (x .numbers) (omega (arith, h, x .many)) (c .higher .ensures) (x .below),
     )
 
@@ -593,10 +598,10 @@ walk-spec =
     returns-3
     mul-frames
     array-set-from-frames
-    sub-stands-at
-    mul-stands-at
-    element-copy-out-stands-at
-    stands-at-requires
+    sub-stands-in
+    mul-stands-in
+    array-copy-out-stands-in
+    stands-in-requires
     loop-less
     loop-again
     enum-known-object
@@ -657,6 +662,7 @@ walk-spec =
     way-write-given-frames-2
     mul-numbers
     array-write-numbers
+    cast-t81
     cast-t82
     mul-frames-6
     array-set-from-frames-2

@@ -15,7 +15,7 @@ use Rattle.reader.specs.NextLaws.{next-ended, next-begin, next-long, nex
 use Rattle.reader.specs.Said.{numberOf, valuesOf, said, stepSaid}
 use Rattle.reader.specs.State.{openOf, innermost}
 use Rattle.reader.specs.declared.state.Reader.{Reader}
-use Rattle.reader.proofs.Steps.{Going, due, looked, is-wrong, is-last, closes, Named, is-missing, is-refused, passes, counts, Holding, is-again, is-deep, enters, short-number, short-count}
+use Rattle.reader.proofs.Steps.{Going, due, looked, is-wrong, is-last, closes, Named, is-missing, is-refused, passes, counts, Holding, is-again, is-deep, enters, short-number, short-count, scalar-number, short-offset}
 use Rattle.reader.proofs.state.Reader.next.Statement.{statement}
 use Rattle.reader.proofs.state.Reader.next.Tie as tie
 
@@ -156,15 +156,21 @@ returns-8 c = c .kept6 .ensures ∙ is-wrong (going (c .before .before .before .
 enum-known-offset : tie.Need-enum-known-offset
 enum-known-offset c = search needs
 
+mul-number : tie.Need-mul-number
+mul-number c = search needs
+
+element-copy-out-number : tie.Need-element-copy-out-number
+element-copy-out-number c = search needs
+
 handed-requires : tie.Need-handed-requires
 handed-requires c κs = search needs
 
 returns-9 : tie.Need-returns-9
-unfolding stepSaid
+unfolding stepSaid innermost
 returns-9 c = rw (c .handed .ensures) (is-last (going (c .before .before .before .before .before .before .before)) _ (due-close (c .before .before .before)) (c .before .if6 .taken))
 
-mul-t54 : tie.Need-mul-t54
-mul-t54 c = search needs
+mul-t48 : tie.Need-mul-t48
+mul-t48 c = search needs
 
 element-set-from-self : tie.Need-element-set-from-self
 element-set-from-self c = search needs
@@ -173,7 +179,7 @@ handed-requires-2 : tie.Need-handed-requires-2
 handed-requires-2 c κs = search needs
 
 returns-10 : tie.Need-returns-10
-unfolding stepSaid
+unfolding stepSaid innermost
 returns-10 c = rw (c .handed2 .ensures) (closes (going (c .before .before .before .before .before .before .before)) _ (due-close (c .before .before .before)) (c .before .if6 .left))
 
 enum-known-object : tie.Need-enum-known-object
@@ -223,6 +229,10 @@ mul-self-2 c = search needs
 way-write-given-self : tie.Need-way-write-given-self
 way-write-given-self c = search needs
 
+cast-handed : tie.Need-cast-handed
+unfolding lookSaid
+cast-handed c = omega (arith, scalar-number (named (c .before .before .before .before .before .before)) _ _ (sym (c .before .before .before .before .look-up .ensures .0) ∙ ap lookSaid (c .before .before .event .given .1)))
+
 handed-requires-3 : tie.Need-handed-requires-3
 handed-requires-3 c κs = search needs
 
@@ -269,11 +279,14 @@ mul-self-4 c = search needs
 way-write-given-self-2 : tie.Need-way-write-given-self-2
 way-write-given-self-2 c = search needs
 
-cast-t83 : tie.Need-cast-t83
-cast-t83 c = omega (arith, short-count (holding (c .before .before .before .before .before .before)))
+cast-t86 : tie.Need-cast-t86
+cast-t86 c = omega (arith, short-count (holding (c .before .before .before .before .before .before)))
 
-mul-t80 : tie.Need-mul-t80
-mul-t80 c = search needs
+cast-t87 : tie.Need-cast-t87
+cast-t87 c = omega (arith, short-offset (holding (c .before .before .before .before .before .before)))
+
+mul-t83 : tie.Need-mul-t83
+mul-t83 c = search needs
 
 element-set-from-self-2 : tie.Need-element-set-from-self-2
 element-set-from-self-2 c = search needs
@@ -325,9 +338,11 @@ next-spec =
     kept-requires-6
     returns-8
     enum-known-offset
+    mul-number
+    element-copy-out-number
     handed-requires
     returns-9
-    mul-t54
+    mul-t48
     element-set-from-self
     handed-requires-2
     returns-10
@@ -345,6 +360,7 @@ next-spec =
     add-self
     mul-self-2
     way-write-given-self
+    cast-handed
     handed-requires-3
     returns-13
     enum-known-shape
@@ -359,8 +375,9 @@ next-spec =
     add-self-2
     mul-self-4
     way-write-given-self-2
-    cast-t83
-    mul-t80
+    cast-t86
+    cast-t87
+    mul-t83
     element-set-from-self-2
     add-self-3
     start-of-requires

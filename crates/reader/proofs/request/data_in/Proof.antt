@@ -1,6 +1,6 @@
--- `data_at` takes data alone.
+-- `data_in` takes data alone.
 use mathlib.Core.List.{List, [], _∷_}
-use mathlib.Core.Path.{_≡_, refl, sym, ap, _∙_}
+use mathlib.Core.Path.{_≡_, refl}
 use Prim.Native.Nat.{ℕ}
 use denote.Enum.Declared.{tagOf}
 use types.Run.{OneOf, miss}
@@ -12,8 +12,8 @@ use Rattle.object.specs.declared.read.Object.the-variants.{Outside, Refused, Sc
 use Rattle.layout.specs.Bytes.{denied, dataAsked}
 use Rattle.reader.specs.Said.{askedSaid, numberOf, valuesOf}
 use borrow.Author.Needs.{needs}
-use Rattle.reader.proofs.request.data_at.Statement.{statement}
-use Rattle.reader.proofs.request.data_at.Tie as tie
+use Rattle.reader.proofs.request.data_in.Statement.{statement}
+use Rattle.reader.proofs.request.data_in.Tie as tie
 
 -- the tags of all objects but data
 abbrev tags : List ℕ
@@ -30,19 +30,16 @@ others (Utf16 p) k = refl
 others (Array n) k = refl
 others (Dictionary n) k = refl
 
-object-at-requires : tie.Need-object-at-requires
-object-at-requires c κs = search needs
-
-enum-known-part : tie.Need-enum-known-part
-enum-known-part c = search needs
+enum-known-object : tie.Need-enum-known-object
+enum-known-object c = search needs
 
 returns : tie.Need-returns
 unfolding askedSaid dataAsked foundOf
-returns c = rw (sym (c .before .before .before .object-at .ensures) ∙ ap foundOf (c .before .part .given .1))
+returns c = rw (c .before .object .given .1)
 
 returns-2 : tie.Need-returns-2
 unfolding askedSaid numberOf valuesOf
-returns-2 c = others (c .before .object-at .result) (c .match .keys2) ∙ ap dataAsked (c .before .object-at .ensures)
+returns-2 c = others (c .before .args .object) (c .match .keys2)
 
-pub data-at-spec : {M : Type 1} → statement M
-data-at-spec = tie.close (tie.spec object-at-requires enum-known-part returns returns-2)
+pub data-in-spec : {M : Type 1} → statement M
+data-in-spec = tie.close (tie.spec enum-known-object returns returns-2)

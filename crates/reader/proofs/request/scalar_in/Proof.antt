@@ -1,6 +1,6 @@
--- `scalar_at` takes the same event alone.
+-- `scalar_in` takes the same event alone.
 use mathlib.Core.List.{List, [], _∷_}
-use mathlib.Core.Path.{_≡_, refl, sym, ap, _∙_}
+use mathlib.Core.Path.{_≡_, refl, ap, _∙_}
 use Prim.Native.Nat.{ℕ}
 use denote.Enum.Declared.{tagOf}
 use types.Run.{OneOf, miss}
@@ -13,8 +13,8 @@ use Rattle.object.specs.declared.read.Object.the-variants.{Outside, Refused, Sc
 use Rattle.layout.specs.Bytes.{denied, givenIf, scalarAsked}
 use Rattle.reader.specs.Said.{askedSaid, numberOf, valuesOf}
 use borrow.Author.Needs.{needs}
-use Rattle.reader.proofs.request.scalar_at.Statement.{statement}
-use Rattle.reader.proofs.request.scalar_at.Tie as tie
+use Rattle.reader.proofs.request.scalar_in.Statement.{statement}
+use Rattle.reader.proofs.request.scalar_in.Tie as tie
 
 -- the tags of all objects but a scalar without bytes
 abbrev tags : List ℕ
@@ -31,11 +31,8 @@ others e (Utf16 p) k = refl
 others e (Array n) k = refl
 others e (Dictionary n) k = refl
 
-object-at-requires : tie.Need-object-at-requires
-object-at-requires c κs = search needs
-
-enum-known-found : tie.Need-enum-known-found
-enum-known-found c = search needs
+enum-known-object : tie.Need-enum-known-object
+enum-known-object c = search needs
 
 is-same-requires : tie.Need-is-same-requires
 is-same-requires c κs = search needs
@@ -45,13 +42,11 @@ given-if-requires c κs = search needs
 
 returns : tie.Need-returns
 unfolding scalarAsked foundOf
-returns c =
-    let e = sym (c .before .before .before .before .before .object-at .ensures) ∙ ap foundOf (c .before .before .before .found .given .1) in
-    rw e (c .given-if .ensures ∙ ap givenIf (c .before .is-same .ensures))
+returns c = rw (c .before .before .before .object .given .1) (c .given-if .ensures ∙ ap givenIf (c .before .is-same .ensures))
 
 returns-2 : tie.Need-returns-2
 unfolding askedSaid numberOf valuesOf
-returns-2 c = others (c .before .before .before .args .event) (c .before .object-at .result) (c .match .keys2) ∙ ap (scalarAsked (c .before .before .before .args .event)) (c .before .object-at .ensures)
+returns-2 c = others (c .before .args .event) (c .before .args .object) (c .match .keys2)
 
-pub scalar-at-spec : {M : Type 1} → statement M
-scalar-at-spec = tie.close (tie.spec object-at-requires enum-known-found is-same-requires given-if-requires returns returns-2)
+pub scalar-in-spec : {M : Type 1} → statement M
+scalar-in-spec = tie.close (tie.spec enum-known-object is-same-requires given-if-requires returns returns-2)
