@@ -246,6 +246,18 @@ def listed(line):
     return dates.line_of(int(bits, 16)) if word == "date" else line
 
 
+def printed(file, number, offset, line):
+    """An event as a program prints it: the bytes of data and text are asked for in the same file, and there are none where that is refused,
+    as it may be after a forged state."""
+    word, _, _ = line.partition(" ")
+    if word not in ("data", "str"):
+        return listed(line)
+    try:
+        return with_bytes(word, given(file, KINDS["data" if word == "data" else "text"], 0, number, offset)[1])
+    except Wrong:
+        return with_bytes(word, b"")
+
+
 def call(file, state):
     """What one call gives where it isn't refused: (number, offset, line), and the state after it."""
     if len(file) > MAX_LENGTH:
@@ -264,7 +276,7 @@ def step(file, state):
         return "end", state
     try:
         (number, offset, line), after = call(file, state)
-        return f"at {number} {offset} {listed(line)}", after
+        return f"at {number} {offset} {printed(file, number, offset, line)}", after
     except Refused as refusal:
         return f"refused {refusal.number} at {refusal.place}", state if refusal.keeps else ENDED
     except Wrong:
