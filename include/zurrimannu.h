@@ -1,7 +1,7 @@
 /*
- * Binary property lists, read and written by proved functions: the C side of the crate `exports`.
+ * Binary property lists, read and written by proved functions: the C side of the crates `exports` and `exports_plain`.
  *
- * The library is target/staticlib/libexports.a, for x86-64; `rt staticlib exports` makes it.
+ * The library is target/staticlib/libzurrimannu.a, for x86-64; `./lib` makes it.
  *
  * A piece of memory passes as a pointer and the number of its elements. The pointer isn't NULL and is aligned for its type, even where
  * the number is 0. Memory that a function may write to overlaps nothing else that is passed, nor do the single numbers that it fills in.
@@ -22,7 +22,7 @@ extern "C" {
 #endif
 
 /*
- * The numbers of refusals, of the reader (1 to 17, 31, 34), the event tape (20, 27), the writer (1, 15, 20 to 26) and the calendar (30).
+ * The numbers of refusals, of the reader (1 to 17, 31, 34), the event tape (20, 27), the plain reader (37), the writer (1, 15, 20 to 26) and the calendar (30).
  * None is 0, and none is 240 or above: 0 and 240 to 255 are for answers that are no refusal.
  */
 enum {
@@ -54,6 +54,7 @@ enum {
     ZM_NO_SUCH_TIME = 30,
     ZM_INVALID_OBJECT_LENGTH = 31,
     ZM_OVERFLOW_OR_NAN_DATE = 34,
+    ZM_OVER_BUDGET = 37,
 };
 
 /* --- text ------------------------------------------------------------------------------------------ */
@@ -92,6 +93,15 @@ enum {
  */
 uint32_t zm_transcribe(const uint8_t *file, size_t file_length, uint8_t *scratch, size_t scratch_length, uint8_t *tape,
                        size_t tape_length, uint64_t budget, uint64_t *held, uint64_t *place, uint32_t *marker);
+
+/*
+ * The plain reader: the same events, put on a tape by a function that goes down through the objects by calling itself. It needs no scratch.
+ * Answers ZM_ENDED or the number of a refusal, never 16 or 17: 37 where `budget` events are on the tape and another is next, 27 where the
+ * next one doesn't fit; where both apply, 37. `*held`, `*place` and `*marker` are as above; the place of 37 is 0, that of 27 `*held`.
+ * It calls itself, up to 512 deep.
+ */
+uint32_t zm_read_plainly(const uint8_t *file, size_t file_length, uint8_t *tape, size_t tape_length, uint64_t budget, uint64_t *held,
+                         uint64_t *place, uint32_t *marker);
 
 /* --- the event tape -------------------------------------------------------------------------------- */
 

@@ -1,4 +1,5 @@
-//! Time per event of the proved reader and of the crate's, on the same files in the same run. See compare/README.md.
+//! Time per event of the proved reader and of the crate's, on the same files in the same run; with PLAIN set, of the plain reader and of the
+//! stepwise one. See compare/README.md.
 
 #[allow(dead_code)]
 mod files;
@@ -9,7 +10,7 @@ mod ours;
 mod random;
 mod timing;
 
-use std::{hint::black_box, io::Cursor, process::ExitCode};
+use std::{env, hint::black_box, io::Cursor, process::ExitCode};
 
 use files::{array, build, counted, dictionary, head, text16, text8};
 use hold::{hold_record, number, shape};
@@ -27,6 +28,7 @@ fn main() -> ExitCode {
     for (name, file) in inputs().into_iter().filter(|(name, _)| words.has(name)) {
         let mut bench = Bench {
             file: &file,
+            plain: env::var_os("PLAIN").is_some(),
             scratch: vec![0; 2 * file.len()],
             tape: vec![0; 3 * file.len() + 64],
         };
@@ -135,6 +137,8 @@ fn one_data() -> Vec<u8> {
 
 struct Bench<'a> {
     file: &'a [u8],
+    /// The plain reader is ours, and the stepwise one the other side.
+    plain: bool,
     scratch: Vec<u8>,
     tape: Vec<u8>,
 }
@@ -152,6 +156,12 @@ impl Bench<'_> {
         got.ending == ours::ENDED
     }
 
+    fn read_plainly(&mut self) -> bool {
+        let got = ours::read_plainly(black_box(self.file), &mut self.tape, u64::MAX);
+        black_box(&self.tape);
+        got.ending == ours::ENDED
+    }
+
     /// The whole file, each event dropped as it comes.
     fn events(&self) -> Option<usize> {
         let mut events = 0;
@@ -165,10 +175,16 @@ impl Bench<'_> {
 
 impl Sides for Bench<'_> {
     fn ours(&mut self) {
-        black_box(self.transcribe());
+        match self.plain {
+            true => black_box(self.read_plainly()),
+            false => black_box(self.transcribe()),
+        };
     }
 
     fn theirs(&mut self) {
-        black_box(self.events());
+        match self.plain {
+            true => black_box(self.transcribe()),
+            false => black_box(self.events().is_some()),
+        };
     }
 }

@@ -1,4 +1,4 @@
-# What compare/reads, compare/writes, compare/guard and compare/bench share; sourced by them. They set `here` and `stop`.
+# What compare/reads, compare/plain, compare/writes, compare/guard and compare/bench share; sourced by them. They set `here` and `stop`.
 
 target=$here/target
 drive=$here/drive
@@ -47,7 +47,7 @@ build_library() {
     project=$(cd "${PROJECT:-$here/..}" && pwd)
     command -v rt >/dev/null || stop "no rt on the path"
     mkdir -p "$target"
-    (cd "$project" && rt staticlib exports) >"$target/library.log" 2>&1 ||
+    "$project/lib" >"$target/library.log" 2>&1 ||
         stop "the library is not proved (see target/library.log)"
 }
 
@@ -57,7 +57,7 @@ build_program() {
     [ -f "$target/lib/libplist.rlib" ] || stop "compare/build left no target/lib/libplist.rlib"
     "$rustc" "${flags[@]}" -C opt-level=3 -C codegen-units=1 --edition 2021 --crate-name "$1" \
         -o "$target/$1" -L "$target/lib" --extern plist="$target/lib/libplist.rlib" \
-        -L "native=$project/target/staticlib" -l static=exports "$drive/$1.rs"
+        -L "native=$project/target/staticlib" -l static=zurrimannu "$drive/$1.rs"
 }
 
 # Files of other writers, made once.

@@ -78,7 +78,7 @@ static int holds(struct part part, const uint8_t *bytes) {
 // --- one file for the reader ----------------------------------------------------------------------
 
 static struct region files, scratches, tapes, works, outputs;
-static unsigned long inputs, calls, steps, no_text, no_tape;
+static unsigned long inputs, calls, plain_calls, steps, no_text, no_tape;
 
 struct answer {
     uint32_t ending;
@@ -102,6 +102,40 @@ static struct answer call(const uint8_t *bytes, size_t length, size_t scratch_ro
     no_text += a.ending == ZM_NO_ROOM_FOR_TEXT;
     no_tape += a.ending == ZM_NO_ROOM_FOR_TAPE;
     return a;
+}
+
+// One call of the plain reader with so much tape and such a budget.
+static struct answer plain_call(const uint8_t *bytes, size_t length, size_t tape_room, uint64_t budget, int at_end) {
+    struct part file = part_with(files, bytes, length, at_end);
+    struct part tape = part_of(tapes, tape_room, at_end);
+    struct answer a = {0, 0, 0, 0};
+    a.ending = zm_read_plainly(file.start, file.length, tape.start, tape.length, budget, &a.held, &a.place, &a.marker);
+    plain_calls++;
+    if (!holds(file, bytes))
+        stop("the plain reader changed memory that was not lent");
+    if (a.held > tape_room)
+        stop("the plain reader holds more than lent");
+    if (!is_kept_from(tape, a.held))
+        stop("the plain reader changed what lies behind the bytes held");
+    return a;
+}
+
+static int is_same(struct answer a, struct answer b) {
+    return a.ending == b.ending && a.held == b.held && a.place == b.place && a.marker == b.marker;
+}
+
+// The transcript's answer, where its budget was not used up, from a tape that just fits; with a byte or the budget less it is refused.
+static void read_plainly(const uint8_t *bytes, size_t length, struct answer all, int at_end) {
+    if (all.ending == ZM_STOPPED)
+        return;
+    if (!is_same(plain_call(bytes, length, all.held, UINT64_MAX, at_end), all))
+        stop("the plain reader gives another answer");
+    if (all.held == 0)
+        return;
+    if (plain_call(bytes, length, all.held - 1, UINT64_MAX, at_end).ending != ZM_NO_ROOM_FOR_TAPE)
+        stop("the plain reader takes a tape that is one byte too short");
+    if (plain_call(bytes, length, 0, 0, at_end).ending != ZM_OVER_BUDGET)
+        stop("the plain reader goes on without a budget");
 }
 
 // Steps along a tape that touches the protected page, from event to event and from places in between.
@@ -138,6 +172,7 @@ static void read_input(const uint8_t *bytes, size_t length) {
             stop("a tape that just fits gives another answer");
         if (at_end)
             walk(exact.held);
+        read_plainly(bytes, length, all, at_end);
         if (all.held > 0 && call(bytes, length, room, all.held - 1, at_end).ending != ZM_NO_ROOM_FOR_TAPE)
             stop("a tape that is one byte too short is not refused");
         for (size_t scratch = 0; scratch < 4; scratch++)
@@ -291,8 +326,8 @@ int main(int count, char **words) {
         stop("usage: guard FILES TAPES");
     files = new_region(), scratches = new_region(), tapes = new_region(), works = new_region(), outputs = new_region();
     each_line(words[1], 8, read_input);
-    printf("%lu inputs, %lu transcripts (%lu refused 16, %lu refused 27), %lu steps of tapes: nothing overran\n",
-           inputs, calls, no_text, no_tape, steps);
+    printf("%lu inputs, %lu transcripts (%lu refused 16, %lu refused 27), %lu plain readings, %lu steps of tapes: nothing overran\n",
+           inputs, calls, no_text, no_tape, plain_calls, steps);
     each_line(words[2], 0, write_input);
     printf("%lu tapes, %lu calls of the writer, %lu files written, %lu events appended: nothing overran\n",
            written_inputs, writes, written_files, appends);

@@ -12,6 +12,7 @@ struct slice {
 #define SLICE(start, length) (&(struct slice){start, length})
 
 u32 raw_transcribe(struct slice *, struct slice *, struct slice *, u64, u64 *, u64 *, u32 *);
+u32 raw_read_plainly(struct slice *, struct slice *, u64, u64 *, u64 *, u32 *);
 u64 raw_tape_step(struct slice *, u64, u64 *, u64 *, u64 *);
 u64 raw_tape_append(struct slice *, u64, u32, u64, struct slice *);
 u32 raw_write(struct slice *, struct slice *, struct slice *, u64 *, u32 *, u32 *);
@@ -19,6 +20,10 @@ u32 raw_write(struct slice *, struct slice *, struct slice *, u64 *, u32 *, u32 
 u32 zm_transcribe(const u8 *file, u64 file_length, u8 *scratch, u64 scratch_length, u8 *tape, u64 tape_length, u64 budget, u64 *held,
                   u64 *place, u32 *marker) {
     return raw_transcribe(SLICE(file, file_length), SLICE(scratch, scratch_length), SLICE(tape, tape_length), budget, held, place, marker);
+}
+
+u32 zm_read_plainly(const u8 *file, u64 file_length, u8 *tape, u64 tape_length, u64 budget, u64 *held, u64 *place, u32 *marker) {
+    return raw_read_plainly(SLICE(file, file_length), SLICE(tape, tape_length), budget, held, place, marker);
 }
 
 u64 zm_tape_step(const u8 *tape, u64 tape_length, u64 at, u64 *value, u64 *start, u64 *length) {

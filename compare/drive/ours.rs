@@ -1,4 +1,4 @@
-//! The proved functions, as `rt staticlib exports` gives them: a slice passes as a pointer, then a length.
+//! The proved functions, as `./lib` gives them: a slice passes as a pointer, then a length.
 
 extern "C" {
     fn zm_transcribe(
@@ -6,6 +6,16 @@ extern "C" {
         file_length: usize,
         scratch: *mut u8,
         scratch_length: usize,
+        tape: *mut u8,
+        tape_length: usize,
+        budget: u64,
+        held: *mut u64,
+        place: *mut u64,
+        marker: *mut u32,
+    ) -> u32;
+    fn zm_read_plainly(
+        file: *const u8,
+        file_length: usize,
         tape: *mut u8,
         tape_length: usize,
         budget: u64,
@@ -47,8 +57,12 @@ extern "C" {
 pub const ENDED: u32 = 0;
 pub const STOPPED: u32 = 255;
 
-/// How a transcript ends, how many bytes of the tape are held, the place of a refusal and the marker of 10.
-#[derive(Clone, Copy, Debug)]
+/// The number that the plain reader gives where the budget is used up and an event is next.
+pub const OVER_BUDGET: u32 = 37;
+pub const NO_ROOM_FOR_TAPE: u32 = 27;
+
+/// How a transcript or a plain reading ends, how many bytes of the tape are held, the place of a refusal and the marker of 10.
+#[derive(Clone, Copy, Debug, PartialEq)]
 pub struct Transcript {
     pub ending: u32,
     pub held: usize,
@@ -66,6 +80,29 @@ pub fn transcribe(file: &[u8], scratch: &mut [u8], tape: &mut [u8], budget: u64)
             file.len(),
             scratch.as_mut_ptr(),
             scratch.len(),
+            tape.as_mut_ptr(),
+            tape.len(),
+            budget,
+            &mut held,
+            &mut place,
+            &mut marker,
+        )
+    };
+    let held = held as usize;
+    Transcript {
+        ending,
+        held,
+        place,
+        marker,
+    }
+}
+
+pub fn read_plainly(file: &[u8], tape: &mut [u8], budget: u64) -> Transcript {
+    let (mut held, mut place, mut marker) = (u64::MAX, u64::MAX, u32::MAX);
+    let ending = unsafe {
+        zm_read_plainly(
+            file.as_ptr(),
+            file.len(),
             tape.as_mut_ptr(),
             tape.len(),
             budget,

@@ -4,6 +4,7 @@ mod added;
 mod families;
 mod files;
 mod hex;
+mod inputs;
 #[allow(dead_code)]
 mod ours;
 mod random;
@@ -11,25 +12,19 @@ mod tape;
 mod theirs;
 
 use std::{
-    env,
     panic::{self, AssertUnwindSafe},
     process::ExitCode,
     time::Instant,
 };
 
 use added::Seeks;
-use families::{date_file, marker_file, sized_file, Stock, FAMILIES};
-use random::Random;
+use inputs::Settings;
 use theirs::{Answer, Watched};
 
 const USAGE: &str = "usage: reads RECORDED REAL [--seed N] [--count N]";
 
 /// Events after which both sides stop: more than 512 arrays have, each inside the last. Shared containers make a small file very long.
 const CAP: u64 = 1100;
-/// A file that is changed at every byte has at most this many.
-const CHANGED_MOST: usize = 4096;
-/// A file of which every cut and every change is tried.
-const WHOLE_MOST: usize = 300;
 const TAPE: usize = 64 << 20;
 const SHOWN: usize = 5;
 
@@ -45,110 +40,11 @@ fn main() -> ExitCode {
     }
 }
 
-struct Settings {
-    recorded: Vec<Vec<u8>>,
-    real: Vec<Vec<u8>>,
-    seed: u64,
-    count: usize,
-}
-
-impl Settings {
-    fn read() -> Option<Settings> {
-        let words: Vec<String> = env::args().skip(1).collect();
-        let (recorded, real) = (hex::lines(words.first()?)?, hex::lines(words.get(1)?)?);
-        let mut settings = Settings {
-            recorded,
-            real,
-            seed: 1,
-            count: 10_000_000,
-        };
-        for pair in words[2..].chunks(2) {
-            match (pair[0].as_str(), pair.get(1)?.parse().ok()?) {
-                ("--seed", n) => settings.seed = n as u64,
-                ("--count", n) => settings.count = n,
-                _ => return None,
-            }
-        }
-        Some(settings)
-    }
-}
-
 fn run(settings: &Settings) -> ExitCode {
     let start = Instant::now();
     let mut judge = Judge::new();
-    each_recorded(settings, &mut judge);
-    each_real(settings, &mut judge);
-    for pair in 0..=u16::MAX {
-        let [first, second] = pair.to_be_bytes();
-        judge.ask("every marker", &marker_file(first, second, &[1; 18]));
-        judge.ask("every marker", &marker_file(first, second, &[0; 18]));
-        judge.ask("every size", &sized_file(first, second));
-    }
-    for bits in files::every_date() {
-        judge.ask("every date", &date_file(bits));
-    }
-    drawn(settings, &mut judge);
+    settings.each(&mut |family, file| judge.ask(family, file));
     judge.report(start)
-}
-
-/// Each recorded file, every cut of it, and each of its bytes changed to all others.
-fn each_recorded(settings: &Settings, judge: &mut Judge) {
-    for file in &settings.recorded {
-        judge.ask("recorded", file);
-        if file.len() <= WHOLE_MOST {
-            every_cut_and_change("recorded", file, judge);
-        }
-    }
-}
-
-fn every_cut_and_change(name: &'static str, file: &[u8], judge: &mut Judge) {
-    for cut in 0..file.len() {
-        judge.ask("every cut", &file[..cut]);
-        judge.ask("every cut", &file[cut..]);
-    }
-    let mut changed = file.to_vec();
-    let label = if name == "real" {
-        "every change, real"
-    } else {
-        "every change"
-    };
-    for at in 0..file.len() {
-        for byte in 0..=255 {
-            if byte != file[at] {
-                changed[at] = byte;
-                judge.ask(label, &changed);
-            }
-        }
-        changed[at] = file[at];
-    }
-}
-
-/// Each file of another writer, and of the small ones every cut and some changes.
-fn each_real(settings: &Settings, judge: &mut Judge) {
-    for (index, file) in settings.real.iter().enumerate() {
-        judge.ask("real", file);
-        if index % 16 == 0 && file.len() <= WHOLE_MOST {
-            every_cut_and_change("real", file, judge);
-        }
-    }
-}
-
-/// Files of all families in turn, by the seed.
-fn drawn(settings: &Settings, judge: &mut Judge) {
-    let good = settings.recorded.iter().chain(&settings.real);
-    let samples = good
-        .filter(|file| file.len() <= CHANGED_MOST)
-        .cloned()
-        .collect();
-    let stock = Stock {
-        samples,
-        numbers: files::numbers(),
-    };
-    let mut random = Random::new(settings.seed);
-    for index in 0..settings.count {
-        let (name, family) = FAMILIES[index % FAMILIES.len()];
-        judge.ask(name, &family(&mut random, &stock));
-    }
 }
 
 /// The lent memory, what was counted, and the differences.

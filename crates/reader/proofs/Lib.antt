@@ -1,4 +1,5 @@
 pub mod Calls
+pub mod Decides
 pub mod Frames
 pub mod Inside
 pub mod One

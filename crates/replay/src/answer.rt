@@ -1,4 +1,6 @@
-// The answers to the lines of standard input: a block for a file, and what forged.rt says of a forged state or record.
+// The answers to the lines of standard input: a block for a file, what by_tape.rt says of one that is read plainly, and what forged.rt says of
+// a forged state or record.
+use crate::by_tape::say_plainly;
 use crate::forged::forged;
 use hexlines::hex::decode;
 use hexlines::line::next;
@@ -54,7 +56,7 @@ fn whole_lines(s: &[u8]) -> usize {
     at
 }
 
-// A file in hex, or a forged line, which begins with a capital. UTF-16 text of a file of 65,536 bytes has at most 98,304 bytes
+// A file in hex; or behind a P, to be read plainly; or a forged line, which begins with another capital. UTF-16 text of a file of 65,536 bytes has at most 98,304 bytes
 // in UTF-8, and its line twice as many and some.
 fn one(digits: &[u8]) {
     let mut file = [0u8; 65536];
@@ -62,6 +64,10 @@ fn one(digits: &[u8]) {
     let mut out = [0u8; 196864];
     if 131072 < digits.len() {
         io::write_all(STDOUT_FILENO, b"long\n");
+        return;
+    }
+    if is_plain(digits) {
+        say_plainly(digits, &mut file, &mut scratch, &mut out);
         return;
     }
     if is_capital(digits) {
@@ -103,6 +109,13 @@ fn then(file: &[u8], scratch: &mut [u8], out: &mut [u8], reader: Reader) {
     let answer = again.answer;
     io::write_all(STDOUT_FILENO, b"then ");
     say_answer(STDOUT_FILENO, file, scratch, out, answer);
+}
+
+fn is_plain(line: &[u8]) -> bool {
+    if line.len() == 0 {
+        return false;
+    }
+    line[0] == b'P'
 }
 
 fn is_capital(line: &[u8]) -> bool {

@@ -6,7 +6,8 @@ use Prim.Native.Nat.{ℕ, _+_}
 use lib.Dec.{leb}
 use lib.ListN.{length}
 use lib.Seq.{sets}
-use Rattle.event.specs.Meaning.{Meaning}
+use Rattle.event.specs.Meaning.{Meaning, text}
+use Rattle.unicode.specs.Unicode.{isUtf16, toUtf8}
 use Rattle.tape.specs.Code.{bytesFor, allowed}
 use Rattle.tape.specs.Item.{event, readAt}
 use Rattle.tape.specs.declared.append.Appended.{Appended}
@@ -41,6 +42,13 @@ appendOf tape at m = cond (allowed m) (putOf tape at (bytesFor m)) (refused 20 a
 
 unfoldable pub appendTo : List ℕ → ℕ → Meaning → List ℕ
 appendTo tape at m = cond (allowed m) (putTo tape at (bytesFor m)) tape
+
+-- text that stands as UTF-16 is put in UTF-8; bytes that aren't UTF-16 are refused as text that isn't UTF-8 is
+unfoldable pub utf16Of : List ℕ → ℕ → List ℕ → Said
+utf16Of tape at s = cond (isUtf16 s) (putOf tape at (bytesFor (text (toUtf8 s)))) (refused 20 at)
+
+unfoldable pub utf16To : List ℕ → ℕ → List ℕ → List ℕ
+utf16To tape at s = cond (isUtf16 s) (putTo tape at (bytesFor (text (toUtf8 s)))) tape
 
 -- what is appended is stepped to again: where bytes are held up to a place, the event behind those held before means the same, and
 -- the next one begins at that place

@@ -6,4 +6,5 @@ pub mod room;
 mod seven;
 pub mod step;
 pub mod unchecked;
+pub mod utf16;
 pub mod value;

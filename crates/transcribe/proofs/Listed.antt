@@ -7,8 +7,8 @@ use native.Mathlib.Numerals.{add-one}
 use native.Mathlib.Omega.{arith}
 use borrow.Author.Tests.{eq-eqb, ne-eqb, eqb-true, eqb-false, ltb-true, ltb-false}
 use lib.Dec.{eqb, ltb}
-use lib.ListN.{length, length-set, set, getD, take, drop, drop-of-length-le}
-use lib.Seq.{map-set-same, take-suc-set, take-set-le, take-take, drop-cons}
+use lib.ListN.{length, length-set, set, getD, take}
+use lib.Seq.{map-set-same, take-suc-set, take-set-le, take-take}
 use Rattle.number.specs.Among.{among}
 use Rattle.layout.specs.Frame.{newFrame, noFrame, nextIn}
 use Rattle.layout.specs.declared.frame.Frame.{Frame}
@@ -110,25 +110,3 @@ pub enter-below : (depth object above more : ℕ) (numbers : List ℕ) → depth
 enter-below depth object above more numbers g is h n k =
     let b = higher-bounds above (object + 1) in
     rw (add-one, take-suc-set numbers depth object g) (among-last (take depth numbers) object n (h n (omega (arith, is, b .0))) (λ e. omega (arith, is, b .1)))
-
--- what is left of a list decides with what was found before
-module _ (s : List ℕ) (n : ℕ) where
-  abbrev pub Decides : Bool → ℕ → Type 0
-  Decides found i = cond found true (among (drop i s) n) ≡ among s n
-
-  left-at : (i : ℕ) → i < length s → among (drop i s) n ≡ cond (eqb n (getD s i 0)) true (among (drop (i + 1) s) n)
-  unfolding among
-  left-at i h = rw (add-one i, drop-cons s i 0 h)
-
-  pub found-here : (found : Bool) (i : ℕ) → i < length s → getD s i 0 ≡ n → Decides found i → Decides true (i + 1)
-  found-here true i h e d = d
-  found-here false i h e d = rw (left-at i h, eq-eqb n (getD s i 0) (sym e)) at d
-
-  pub not-here : (found : Bool) (i : ℕ) → i < length s → (getD s i 0 ≡ n → ⊥) → Decides found i → Decides found (i + 1)
-  not-here true i h e d = d
-  not-here false i h e d = rw (left-at i h, ne-eqb n (getD s i 0) (λ z. e (sym z))) at d
-
-  pub none-left : (found : Bool) (i : ℕ) → length s ≤ i → Decides found i → found ≡ among s n
-  unfolding among
-  none-left true i h d = d
-  none-left false i h d = rw (drop-of-length-le s {i = i} h) at d

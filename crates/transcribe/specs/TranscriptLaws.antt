@@ -137,7 +137,7 @@ module _ (file scratch tape : List ℕ) (held : ℕ) (e : Event) (offset : ℕ) 
   note-asked (inFile start n) d g h = puts scratch refl (note-file h start n d)
   note-asked (inUtf16 start n) d g h = note-utf16 h start n d (g .0)
 
-  notes : Given file e (eventAsked file e offset) → Notes file scratch tape held (meaningAt file e offset) offset (noteOf file scratch tape held e offset)
+  pub notes : Given file e (eventAsked file e offset) → Notes file scratch tape held (meaningAt file e offset) offset (noteOf file scratch tape held e offset)
   notes g = go (hasBytes e) refl
     where
       go : (b : Bool) → hasBytes e ≡ b → Notes file scratch tape held (meaningAt file e offset) offset (noteOf file scratch tape held e offset)

@@ -15,6 +15,7 @@ use layout::layout::stands_in;
 use layout::lookup::Look;
 use layout::lookup::look_up;
 use object::container::container_at;
+use reader::opened::is_among;
 use reader::refusal::Refusal;
 use reader::state::Reader;
 ghost use mathlib.Core.Path.{_≡_};
@@ -165,24 +166,6 @@ fn higher(a: u64, b: u64) -> u64
     ensures { λ r. ⌜ r ≡ higherOf a b ⌝ }
 {
     if a < b { b } else { a }
-}
-
-// Whether a number is among others. None ends the loop early, so that the compiler compares many at once: with 64 containers open that
-// takes some 60 instructions less than to stop at the first one.
-fn is_among(numbers: &[u32], number: u32) -> bool
-    ensures { λ r. ⌜ r ≡ among (now (numbers .entry)) number ⌝ }
-{
-    let mut found = false;
-    let mut i: usize = 0;
-    while i < numbers.len() {
-        if numbers[i] == number {
-            found = true;
-            i += 1;
-            continue;
-        }
-        i += 1;
-    }
-    found
 }
 
 // Where the innermost open container stands; with none open, where the first one will.

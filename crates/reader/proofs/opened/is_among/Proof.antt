@@ -4,9 +4,9 @@ use Prim.Native.Nat.{_≤_, _-_}
 use native.Mathlib.Omega.{arith}
 use borrow.Author.Needs.{needs}
 use lib.ListN.{length}
-use Rattle.transcribe.proofs.Listed.{Decides, found-here, not-here, none-left}
-use Rattle.transcribe.proofs.walk.is_among.Statement.{statement}
-use Rattle.transcribe.proofs.walk.is_among.Tie as tie
+use Rattle.reader.proofs.Decides.{Decides, found-here, not-here, none-left}
+use Rattle.reader.proofs.opened.is_among.Statement.{statement}
+use Rattle.reader.proofs.opened.is_among.Tie as tie
 
 abbrev Inv-loop : tie.InvT-loop
 Inv-loop numbers number found₀ i₀ found i = (i ≤ length numbers) × Decides numbers number found i

@@ -1,0 +1,1 @@
+// Theorems only: the plain reader and the stepwise one agree (specs).

@@ -1,0 +1,5 @@
+pub mod Counting
+pub mod Objects
+pub mod Roots
+pub mod Scalars
+pub mod Turns

@@ -1,0 +1,10 @@
+pub mod Computed
+pub mod Elements
+pub mod ElementsLaws
+pub mod Examples
+pub mod One
+pub mod Plain
+pub mod PlainLaws
+pub mod Said
+pub mod SaidLaws
+pub mod Says
