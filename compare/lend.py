@@ -16,6 +16,7 @@ import sys
 
 sys.dont_write_bytecode = True  # nothing is left beside the sources
 
+import find
 import write_model
 from generator import worked, write_families
 
@@ -100,7 +101,7 @@ def recorded_answer(line):
 
 def sample(stdin, stdout):
     """The recorded tapes with their answers; tapes with dates, which the recorded ones lack; then the small recorded ones again with
-    what is lent, all kinds of lending in turn."""
+    what is lent, all kinds of lending in turn; then the sample of the lookup."""
     tapes = recorded_tapes()
     answers = [recorded_answer(line) for line in (RECORDED / "writer-answers.txt").read_text().splitlines()]
     made = [(tape.hex(), [answer]) for tape, answer in zip(tapes, answers, strict=True)]
@@ -110,6 +111,7 @@ def sample(stdin, stdout):
     for index, tape in enumerate(each for each in tapes if len(each) <= SMALL):
         kinds = lendings(rng, tape)
         made.append(lent_line(tape, *kinds[index % len(kinds)]))
+    made += find.sample()
     pathlib.Path(stdin).write_text("".join(line + "\n" for line, _ in made))
     pathlib.Path(stdout).write_text("".join("\n".join(answer) + "\n" for _, answer in made))
     print(f"sample: {len(made)} lines, {len(tapes)} of them recorded tapes")

@@ -1,5 +1,5 @@
 /*
- * Binary property lists, read and written by proved functions: the C side of the crates `exports` and `exports_plain`.
+ * Binary property lists, read and written by proved functions: the C side of the crates `exports`, `exports_plain` and `exports_find`.
  *
  * The library is target/staticlib/libzurrimannu.a, for x86-64; `./lib` makes it.
  *
@@ -22,7 +22,8 @@ extern "C" {
 #endif
 
 /*
- * The numbers of refusals, of the reader (1 to 17, 31, 34), the event tape (20, 27), the plain reader (37), the writer (1, 15, 20 to 26) and the calendar (30).
+ * The numbers of refusals, of the reader (1 to 17, 31, 34), the event tape (20, 27), the plain reader (37), the writer (1, 15, 20 to 26), the
+ * calendar (30) and the lookup (1, 15, 20 to 23, 33).
  * None is 0, and none is 240 or above: 0 and 240 to 255 are for answers that are no refusal.
  */
 enum {
@@ -53,6 +54,7 @@ enum {
     ZM_NO_ROOM_FOR_TAPE = 27,
     ZM_NO_SUCH_TIME = 30,
     ZM_INVALID_OBJECT_LENGTH = 31,
+    ZM_BAD_PATH = 33,
     ZM_OVERFLOW_OR_NAN_DATE = 34,
     ZM_OVER_BUDGET = 37,
 };
@@ -177,6 +179,33 @@ enum {
  */
 uint32_t zm_write(const uint8_t *tape, size_t tape_length, uint32_t *work, size_t work_length, uint8_t *out, size_t out_length,
                   uint64_t *value, uint32_t *expected, uint32_t *found);
+
+/* --- looking up -------------------------------------------------------------------------------------- */
+
+/* What a lookup answers where there is no such value. */
+#define ZM_NOT_FOUND 254
+
+/*
+ * The value under a path on a tape whose events are one whole value. A path is the count of its keys, then of each key the count of its bytes and
+ * the bytes, in groups of seven bits as on the tape; the empty path, one byte 0, is the root. Keys are compared as bytes; of pairs with the same
+ * key the first counts.
+ *
+ * Answers 0, and the value is the `*length` bytes of the tape from `*start` on, which are a complete tape themselves; ZM_NOT_FOUND, and both are 0;
+ * or the number of a refusal, and `*start` is its place, `*length` 0: of the tape as zm_write has them (1, 15, 20 to 23), then 33 where the bytes
+ * are no path. `*expected` and `*found` are the kinds that 21 names, else 0.
+ */
+uint32_t zm_find(const uint8_t *tape, size_t tape_length, const uint8_t *path, size_t path_length, uint64_t *start, uint64_t *length,
+                 uint32_t *expected, uint32_t *found);
+
+/* What adding a key answers in place of a length, or ZM_NO_ROOM. */
+#define ZM_NOT_PATH UINT64_MAX
+
+/*
+ * Makes a path key by key. With `held` 0 the path of this key alone comes to stand at the front of `path`; else the key is added to the path in the
+ * first `held` bytes. Answers how many bytes are held then; or ZM_NOT_PATH where the held bytes are no path, else ZM_NO_ROOM where the new one doesn't
+ * fit. Then `path` is as it was; what lies behind the path always is. The empty path is one byte 0.
+ */
+uint64_t zm_path_append(uint8_t *path, size_t path_length, size_t held, const uint8_t *key, size_t key_length);
 
 /* --- dates ----------------------------------------------------------------------------------------- */
 

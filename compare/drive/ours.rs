@@ -51,6 +51,16 @@ extern "C" {
         expected: *mut u32,
         found: *mut u32,
     ) -> u32;
+    fn zm_find(
+        tape: *const u8,
+        tape_length: usize,
+        path: *const u8,
+        path_length: usize,
+        start: *mut u64,
+        length: *mut u64,
+        expected: *mut u32,
+        found: *mut u32,
+    ) -> u32;
 }
 
 /// The numbers of the endings that aren't refusals: crates/exports/specs/Transcript.antt.
@@ -184,6 +194,40 @@ pub fn write(tape: &[u8], work: &mut [u32], out: &mut [u8]) -> Written {
     Written {
         number,
         value,
+        expected,
+        found,
+    }
+}
+
+/// What a lookup answers: 0, where the part begins and how long it is; 254; or a refusal's number, and its place in `start`.
+#[derive(Clone, Copy, Debug, PartialEq)]
+pub struct Found {
+    pub number: u32,
+    pub start: u64,
+    pub length: u64,
+    pub expected: u32,
+    pub found: u32,
+}
+
+pub fn find(tape: &[u8], path: &[u8]) -> Found {
+    let (mut start, mut length) = (u64::MAX, u64::MAX);
+    let (mut expected, mut found) = (u32::MAX, u32::MAX);
+    let number = unsafe {
+        zm_find(
+            tape.as_ptr(),
+            tape.len(),
+            path.as_ptr(),
+            path.len(),
+            &mut start,
+            &mut length,
+            &mut expected,
+            &mut found,
+        )
+    };
+    Found {
+        number,
+        start,
+        length,
         expected,
         found,
     }

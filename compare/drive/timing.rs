@@ -40,9 +40,13 @@ pub fn words() -> Option<Words> {
 }
 
 pub fn print_heading() {
+    print_headed("ours ns", "crate ns");
+}
+
+pub fn print_headed(ours: &str, theirs: &str) {
     println!(
-        "{:<34}{:>9}{:>9}{:>11}{:>11}{:>8}   {}",
-        "", "bytes", "events", "ours ns", "crate ns", "ratio", "of rounds"
+        "{:<34}{:>9}{:>9}{ours:>11}{theirs:>11}{:>8}   {}",
+        "", "bytes", "events", "ratio", "of rounds"
     );
 }
 

@@ -85,7 +85,7 @@ fn found_number(written: Written) -> u32
     }
 }
 
-fn first_number(refusal: Refusal) -> u32
+pub fn first_number(refusal: Refusal) -> u32
     ensures { λ r. ⌜ r ≡ firstNumber (kindsOf refusal) ⌝ }
 {
     match refusal {
@@ -98,7 +98,7 @@ fn first_number(refusal: Refusal) -> u32
     }
 }
 
-fn second_number(refusal: Refusal) -> u32
+pub fn second_number(refusal: Refusal) -> u32
     ensures { λ r. ⌜ r ≡ secondNumber (kindsOf refusal) ⌝ }
 {
     match refusal {

@@ -1,4 +1,5 @@
-// The answers to the lines: one line for a tape alone, three where a line says what is lent.
+// The answers to the lines: one line for a tape alone, three where a line says what is lent; of a tape and a path what find.rt says.
+use crate::find::found_under;
 use grammar::answer::EventKind;
 use grammar::answer::Refusal;
 use grammar::answer::number_of;
@@ -35,7 +36,7 @@ pub fn all(buffer: &mut [u8]) {
 // What is left when the input has ended: a line without its newline, if anything.
 fn last(s: &[u8]) {
     if 0 < s.len() {
-        one(s);
+        line_of(s);
     }
 }
 
@@ -47,10 +48,21 @@ fn whole_lines(s: &[u8]) -> usize {
         if end == s.len() {
             return at;
         }
-        one(&s[at..end]);
+        line_of(&s[at..end]);
         at = end + 1;
     }
     at
+}
+
+// A slash stands between a tape and a path.
+fn line_of(line: &[u8]) {
+    let slash = next(line, 0, b'/');
+    if slash == line.len() {
+        one(line);
+        return;
+    }
+    let path_at = after(line, slash);
+    found_under(&line[..slash], &line[path_at..]);
 }
 
 // A tape in hex, and where a space follows: how many words and bytes are lent, and from which word on words are looked at afterwards. The
@@ -135,7 +147,7 @@ fn say_answer(written: Written) {
     io::write_all(STDOUT_FILENO, b"\n");
 }
 
-fn say_refusal(number: u64, place: u64) {
+pub(crate) fn say_refusal(number: u64, place: u64) {
     io::write_all(STDOUT_FILENO, b"refused ");
     io::print_decimal(STDOUT_FILENO, number);
     io::write_all(STDOUT_FILENO, b" at ");
@@ -143,7 +155,7 @@ fn say_refusal(number: u64, place: u64) {
 }
 
 // What an unexpected event names: what was expected, and what was found.
-fn say_kinds(refusal: Refusal) {
+pub(crate) fn say_kinds(refusal: Refusal) {
     let Refusal::UnexpectedEventType(expected, found) = refusal else {
         return;
     };
@@ -194,7 +206,7 @@ fn say_kind(kind: EventKind) {
 }
 
 // A space and the bytes in hex, where there are any.
-fn say_bytes(bytes: &[u8]) {
+pub(crate) fn say_bytes(bytes: &[u8]) {
     if bytes.len() == 0 {
         return;
     }

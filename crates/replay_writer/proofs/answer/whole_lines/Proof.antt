@@ -21,17 +21,17 @@ next-requires c κs = search needs
 returns : tie.Need-returns Inv-loop μ-loop
 returns c = search needs
 
-sub-one : tie.Need-sub-one Inv-loop μ-loop
-sub-one c = omega (arith, c .before .next .ensures .1 (c .before .before .before .loop .inv))
+sub-line-of : tie.Need-sub-line-of Inv-loop μ-loop
+sub-line-of c = omega (arith, c .before .next .ensures .1 (c .before .before .before .loop .inv))
 
-part-one-start : tie.Need-part-one-start Inv-loop μ-loop
-part-one-start c = omega (arith, c .before .next .ensures .1 (c .before .before .before .loop .inv))
+part-line-of-start : tie.Need-part-line-of-start Inv-loop μ-loop
+part-line-of-start c = omega (arith, c .before .next .ensures .1 (c .before .before .before .loop .inv))
 
-part-one-end : tie.Need-part-one-end Inv-loop μ-loop
-part-one-end c = omega (arith, c .before .next .ensures .1 (c .before .before .before .loop .inv))
+part-line-of-end : tie.Need-part-line-of-end Inv-loop μ-loop
+part-line-of-end c = omega (arith, c .before .next .ensures .1 (c .before .before .before .loop .inv))
 
-one-requires : tie.Need-one-requires Inv-loop μ-loop
-one-requires c κs = search needs
+line-of-requires : tie.Need-line-of-requires Inv-loop μ-loop
+line-of-requires c κs = search needs
 
 add-at : tie.Need-add-at Inv-loop μ-loop
 add-at c = search needs
@@ -54,10 +54,10 @@ whole-lines-spec =
     loop-holds
     next-requires
     returns
-    sub-one
-    part-one-start
-    part-one-end
-    one-requires
+    sub-line-of
+    part-line-of-start
+    part-line-of-end
+    line-of-requires
     add-at
     loop-less
     loop-again

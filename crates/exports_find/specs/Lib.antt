@@ -1,0 +1,4 @@
+pub mod Find
+pub mod FindLaws
+pub mod PathAppend
+pub mod PathAppendLaws

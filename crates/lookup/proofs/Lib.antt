@@ -1,0 +1,5 @@
+pub mod Finding
+pub mod Growing
+pub mod Same
+pub mod Seeking
+pub mod Walking
