@@ -1,4 +1,4 @@
-//! The proved functions, as `rt staticlib exports` gives them: a slice passes as a pointer, then a length.
+//! The proved functions, as `./lib` gives them: a slice passes as a pointer, then a length.
 
 extern "C" {
     fn zm_is_utf8(s: *const u8, length: usize) -> bool;
