@@ -4,12 +4,11 @@ use mathlib.Core.Bool.{Bool, true, false, cond}
 use mathlib.Core.List.{List, [], _∷_, _++_, map}
 use mathlib.Core.Path.{_≡_, refl, sym, ap, subst, _∙_}
 use Prim.Native.Nat.{ℕ, zero, suc, _+_, _-_, _≤_, _<_}
-use native.Mathlib.Numerals.{add-one}
 use native.Mathlib.Nat.{add-zero}
 use native.Mathlib.Omega.{arith}
 use borrow.Author.Tests.{ne-eqb, le-leb, lt-leb}
 use lib.Dec.{lit<}
-use lib.ListN.{length, length-drop, set, take, drop, replicate}
+use lib.ListN.{length, length-drop, set, drop, replicate}
 use lib.Seq.{getD-set-same, set-set, set-getD}
 use Rattle.number.specs.Among.{among}
 use Rattle.number.specs.Width.{bytesIn}
@@ -23,7 +22,7 @@ use Rattle.layout.specs.Looked.{Looked, barred, missing, faulty, scalar, contai
 use Rattle.layout.specs.References.{referencesOf}
 use Rattle.layout.specs.Trailer.{Trailer, keeps, ends, lays, trailerIn}
 use Rattle.layout.specs.declared.frame.Frame.{Frame}
-use Rattle.layout.specs.declared.layout.Due.the-variants.{Close, Member}
+use Rattle.layout.specs.declared.layout.Due.the-variants.{Member}
 use Rattle.layout.specs.declared.layout.Layout.{Layout}
 use Rattle.reader.specs.Machine.{Step, step, origin, eventAt, refuse, enter, arrive, follow}
 use Rattle.reader.specs.Meanings.{meaningAt}

@@ -1,20 +1,19 @@
 -- What stands on the tape, and which answer is given: as many events as the budget and the tape take, and 37 before 27.
-use mathlib.Core.Bool.{Bool, true, false, cond}
-use mathlib.Core.List.{List, [], _∷_, _++_, map, append-nil}
-use mathlib.Core.Path.{_≡_, refl, sym, ap, _∙_}
+use mathlib.Core.Bool.{Bool, true, false}
+use mathlib.Core.List.{List, [], _∷_, map}
+use mathlib.Core.Path.{_≡_, refl, sym, _∙_}
 use Prim.Native.Nat.{ℕ, zero, suc, _+_, _≤_, _<_}
-use native.Mathlib.Nat.{add-zero, zero-add}
+use native.Mathlib.Nat.{add-zero}
 use native.Mathlib.Omega.{arith}
 use borrow.Author.Tests.{leb-true, leb-false}
 use lib.Dec.{leb}
 use lib.ListN.{length, length-append, take}
 use lib.Seq.{sets, length-sets}
-use Rattle.event.specs.Meaning.{Meaning}
 use Rattle.unicode.proofs.Writing.{sets-append}
 use Rattle.tape.specs.Append.{fits}
 use Rattle.tape.specs.Code.{bytesFor}
 use Rattle.tape.specs.Events.{tapeOf}
-use Rattle.plainly.specs.Plain.{Last, whole, stopped, Put, put, Reach, going, over, refusedWith, reachOf, putAll, sayOnto, lastOf, Plainly, plainly, closing, plainTape}
+use Rattle.plainly.specs.Plain.{Last, whole, stopped, Put, reachOf, putAll, sayOnto, lastOf}
 use Rattle.plainly.specs.Says.{Stated, End, done, refused, Says, fileSays}
 
 -- the bytes of the first n events

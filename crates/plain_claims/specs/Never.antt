@@ -2,30 +2,27 @@
 -- and the budget give.
 use mathlib.Core.Bool.{Bool, true, false, cond}
 use mathlib.Core.List.{List, [], _∷_, _++_}
-use mathlib.Core.Path.{_≡_, refl, sym, ap, _∙_}
+use mathlib.Core.Path.{_≡_, refl}
 use Prim.Native.Nat.{ℕ, zero, suc, _+_}
-use native.Mathlib.Omega.{arith}
 use lib.Dec.{ltb}
 use lib.ListN.{length}
-use lib.Seq.{sets}
 use Rattle.number.specs.Among.{among, among-not, among-more}
 use Rattle.number.specs.Either.{either}
 use Rattle.event.specs.Format.{maxLength, maxOpen}
 use Rattle.event.specs.Meaning.{Meaning, meaningOf}
-use Rattle.object.specs.Refusal.{objectRefusals}
 use Rattle.layout.specs.Layout.{lookOf}
 use Rattle.layout.specs.LookLaws.{Laid, look-right, never-missing}
 use Rattle.layout.specs.Looked.{Shape, Looked, barred, missing, faulty, scalar, container, startOf}
 use Rattle.layout.specs.References.{referencesOf}
-use Rattle.layout.specs.Refusals.{lookRefusals, fileRefusals, file-refusal, keeps-refusal, ends-refusal, long-refusal}
+use Rattle.layout.specs.Refusals.{file-refusal, keeps-refusal, ends-refusal, long-refusal}
 use Rattle.layout.specs.Trailer.{Trailer, keeps, ends, lays, trailerOf, trailerIn}
 use Rattle.layout.specs.TrailerLaws.{Tells, tells}
 use Rattle.layout.specs.declared.layout.Layout.{Layout}
 use Rattle.reader.specs.Refusals.{stepRefusals, step-refusal, not-step-16, not-step-17}
 use Rattle.tape.specs.Append.{fits}
 use Rattle.tape.specs.Code.{bytesFor}
-use Rattle.plainly.specs.Plain.{Last, whole, stopped, Put, put, over, lastOf, refusedWith, reachOf, putAll, sayOnto, closing, plainTape}
-use Rattle.plainly.specs.Says.{Stated, End, done, refused, Says, says, refusal, one, on, followed, eachOf, wholeOf, byLook, objectSays, trailerSays, fileSays}
+use Rattle.plainly.specs.Plain.{Last, whole, stopped, Put, lastOf, reachOf, putAll, sayOnto, closing, plainTape}
+use Rattle.plainly.specs.Says.{Stated, End, done, refused, Says, refusal, on, followed, eachOf, wholeOf, byLook, objectSays, trailerSays, fileSays}
 
 -- an ending that is the end, or a refusal with a step's number
 abbrev pub Fair : End → Type 0

@@ -1,9 +1,8 @@
 -- `transcribe` and the plain reader, with the same budget and tape: the same bytes are held and the tape is the same, unless the scratch is too
 -- short for a text (16), which the plain reader needs none for; and the same ending, where the budget is not used up.
-use mathlib.Core.Bool.{Bool, true, false, cond}
+use mathlib.Core.Bool.{Bool, true, false}
 use mathlib.Core.List.{List, [], _∷_}
-use mathlib.Core.Logic.{_⊎_, inl, inr}
-use mathlib.Core.Path.{_≡_, refl, sym, ap, _∙_}
+use mathlib.Core.Path.{_≡_, refl, ap, _∙_}
 use Prim.Native.Nat.{ℕ, zero, suc, _+_}
 use native.Mathlib.Omega.{arith}
 use lib.ListN.{length}
@@ -27,7 +26,7 @@ use Rattle.transcribe.specs.Run as run
 use Rattle.transcribe.specs.TranscriptLaws.{Notes, puts, lacks, notes}
 use Rattle.plainly.specs.Plain as plain
 use Rattle.plainly.specs.Plain.{Last, Plainly, reachOf, putAll, sayOnto, lastOf, closing, plainTape}
-use Rattle.plainly.specs.Says.{Stated, End, done, Says, fileSays}
+use Rattle.plainly.specs.Says.{Stated, End, done, fileSays}
 use Rattle.plainly.specs.Says as says
 use Rattle.plain_claims.specs.Agree.{file-tells}
 use Rattle.plain_claims.specs.Walks as walks

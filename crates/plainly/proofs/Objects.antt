@@ -22,14 +22,14 @@ use Rattle.layout.specs.declared.lookup.Look.the-variants.{Scalar as ScalarLook
 use Rattle.layout.specs.declared.lookup.Shape.{Shape as ShapeRead}
 use Rattle.layout.specs.declared.lookup.Span.{Span}
 use Rattle.reader.proofs.Inside.{event-in}
-use Rattle.reader.specs.Meanings.{meaningAt, bytesAsked}
+use Rattle.reader.specs.Meanings.{meaningAt}
 use Rattle.plainly.specs.Elements.{elementsFrom, elementsSay}
 use Rattle.plainly.specs.ElementsLaws.{Entered}
 use Rattle.plainly.specs.One.{onePut, Scalar, scalarMeans}
 use Rattle.plainly.specs.Plain.{stopped, put, refusedWith, sayOnto}
 use Rattle.plainly.specs.PlainLaws.{one-said, refused-said, followed-on, followed-over}
 use Rattle.plainly.specs.Said.{endingSaid, wentSaid}
-use Rattle.plainly.specs.Says.{Says, refusal, one, wholeOf, byLook, objectSays}
+use Rattle.plainly.specs.Says.{Says, refusal, wholeOf, byLook, objectSays}
 use Rattle.plainly.specs.declared.Far.{Far}
 use Rattle.plainly.specs.declared.Reading.{Reading}
 use Rattle.plainly.specs.declared.Went.{Went}

@@ -3,8 +3,8 @@ use mathlib.Core.List.{List, []}
 use mathlib.Core.Path.{_≡_, sym, ap, _∙_}
 use Prim.Native.Nat.{ℕ}
 use Rattle.event.specs.Format.{maxOpen}
-use Rattle.layout.specs.Said.{numberOf, valuesOf, trailerSaid}
-use Rattle.layout.specs.Trailer.{Trailer, keeps, ends, lays, trailerIn}
+use Rattle.layout.specs.Said.{trailerSaid}
+use Rattle.layout.specs.Trailer.{Trailer, lays, trailerIn}
 use Rattle.layout.specs.declared.layout.Layout.{Layout}
 use Rattle.layout.specs.declared.trailer.TrailerRead.{TrailerRead}
 use Rattle.layout.specs.declared.trailer.TrailerRead.the-variants.{Lays}

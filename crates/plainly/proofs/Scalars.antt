@@ -1,7 +1,7 @@
 -- A scalar that a file has, by where its bytes stand.
 use mathlib.Core.Bool.{true}
 use mathlib.Core.List.{List, []}
-use mathlib.Core.Path.{_≡_, refl, sym, ap, _∙_}
+use mathlib.Core.Path.{_≡_}
 use Prim.Native.Nat.{ℕ, _+_, _-_, _≤_}
 use native.Mathlib.Omega.{arith}
 use lib.ListN.{length, take, drop}
@@ -10,7 +10,6 @@ use Rattle.unicode.specs.Unicode.{isUtf16, toUtf8}
 use Rattle.event.specs.Meaning.{text, meaningOf}
 use Rattle.event.specs.declared.Event.{Event}
 use Rattle.object.specs.declared.read.Part.{Part}
-use Rattle.layout.specs.Bytes.{inFile, inUtf16}
 use Rattle.layout.specs.Said.{spanSaid}
 use Rattle.layout.specs.declared.lookup.Span.{Span}
 use Rattle.layout.specs.declared.lookup.Span.the-variants.{InFile, InUtf16, NoBytes}

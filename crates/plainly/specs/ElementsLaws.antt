@@ -12,7 +12,6 @@ use Rattle.number.specs.Width.{bytesIn}
 use Rattle.number.specs.declared.width.Width.{Width}
 use Rattle.event.specs.Format.{maxLength}
 use Rattle.object.specs.Container.{containerAt}
-use Rattle.object.specs.Content.{trailerAt}
 use Rattle.object.specs.declared.container.Container.{Container}
 use Rattle.object.specs.declared.content.Extent.{Extent}
 use Rattle.layout.proofs.Counts.{counted, stands-before}

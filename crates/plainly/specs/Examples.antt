@@ -9,7 +9,7 @@ use Rattle.event.specs.Format.{magic}
 use Rattle.event.specs.Meaning.{Meaning, array, integer, text, close}
 use Rattle.plainly.specs.Computed.{computed}
 use Rattle.plainly.specs.Plain.{Plainly, whole, stopped, plainly, plainTape}
-use Rattle.plainly.specs.Says.{Stated, Says, done, refused, says, fileSays}
+use Rattle.plainly.specs.Says.{Stated, done, refused, says, fileSays}
 
 -- the files, as docs/FORMAT.md has them byte by byte
 abbrev eight : ℕ → List ℕ

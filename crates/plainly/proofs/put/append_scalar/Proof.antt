@@ -1,5 +1,5 @@
 -- `append_scalar` appends the event with its bytes, wherever they stand.
-use mathlib.Core.Path.{_≡_, ap, _∙_}
+use mathlib.Core.Path.{ap, _∙_}
 use native.Mathlib.Omega.{arith}
 use borrow.Author.Needs.{needs}
 use Rattle.event.specs.Meaning.{Meaning}
