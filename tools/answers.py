@@ -1,0 +1,323 @@
+#!/usr/bin/env python3
+"""Turns each proof of a crate that walks a function's goals by `tie.close` into Invariants.antt and Answers.antt.
+
+usage: tools/answers.py CRATE NAMES [FUNCTION..]
+
+CRATE is a crate's folder. NAMES is the names.json that `rt check --generated DIR --old-names` writes there. With functions, as be/horner, only their
+proofs are turned. It goes by text; what it can't tell it prints, and a check decides. Answers that are `search rules` alone go: the check tries that itself.
+"""
+import glob
+import json
+import os
+import re
+import sys
+
+W = r"[^\s(){}.;,@\"«»\[\]\\]+"
+PATH = re.compile(rf"(?<![^\s(\[,{{])({W})((?:\.{W})+)")
+norm = lambda it: re.sub(r"[-_]+", "-", it)
+
+
+class Function:
+    def __init__(self, of):
+        self.of = of
+        self.stem = of.get("stem") or ""
+        self.need = {}
+        for (old, new), place in zip(of["needs"], of["asked_at"]):
+            for it in (old, new):
+                self.need.setdefault(norm(it), (new, norm(place[0])))
+        self.place = {}
+        for it, name, typed, arm in zip(of["places"], of["places_by_name"], of["typed"], of["arms"] + [None] * len(of["places"])):
+            self.place[norm(it[0])] = dict(name=name, prev=it[1] and norm(it[1]), step=it[2], callee=it[3], typed=typed, arm=arm)
+        self.loops = {norm(a[0]): (a, b, changed) for (a, b), changed in zip(of["loops"], of["changed"])}
+        claims = ["tie.the-claims"] if any(it[3] for it in of["places"]) else []
+        bounds = [f"goal.the-{kind}-{a[1]}" for a, _ in of["loops"] for kind in ("invariant", "decreases")]
+        # what the records of Lts take
+        self.given = " ".join(claims + ["reads.Pre", "reads.Post"] + bounds)
+
+    def chain(self, place):
+        out = []
+        while place:
+            out.append(place)
+            place = self.place[place]["prev"]
+        return out
+
+
+def paragraphs(text):
+    """The file's blocks: comments above a declaration, its signature, and its clauses. What is indented belongs to the block above."""
+    out = []
+    for it in re.split(r"\n\n+", text.strip("\n")):
+        if not it.strip():
+            continue
+        if it.startswith(" ") and out:
+            out[-1] += "\n\n" + it
+        else:
+            out.append(it)
+    return out
+
+
+START = ("args", "requires", "ranges", "well-formed", "lifetimes", "utf8", "captures")
+
+
+class Turner:
+    def __init__(self, fun, said):
+        self.fun, self.said = fun, said
+        # the lemmas of the file that take a place's record, by name; those of them whose record is the inner one, of Lts; the file's uses of them
+        self.takes = {}
+        self.inner = set()
+        self.uses = []
+
+    def resolve(self, place, labels, where, inner=False):
+        """Returns the labels of the new path for `c.labels` at a place. How often a path goes back says nothing: a step's label stands once in a function."""
+        labels = list(labels)
+        while labels and labels[0] == "before":
+            labels.pop(0)
+        if not labels:
+            return None
+        first = norm(labels[0])
+        if first in START:
+            return [labels[0].replace("-", "_"), *labels[1:]]
+        chain = self.fun.chain(place)
+        here = next((p for p in chain if norm(self.fun.place[p]["step"][0]) == first), None) or next((p for p in chain if norm(self.fun.place[p]["step"][1]) == first), None)
+        if not here:
+            self.said(f"{where}: no step {labels[0]}")
+            return None
+        step = self.fun.place[here]["step"]
+        if inner:
+            return [step[1], *labels[1:]]
+        if labels[1:2] == ["given"]:
+            for p in chain:
+                for var, known in self.fun.place[p]["typed"]:
+                    if norm(known) == norm(step[0]):
+                        return ["type_inv", var, *labels[2:]]
+        for p in chain:
+            arm = self.fun.place[p]["arm"]
+            if not arm:
+                continue
+            name, _, fields = arm
+            for label, of, inner in sorted(fields, key=lambda f: -len(f[2])):
+                if norm(of) == norm(step[0]) and [norm(x) for x in labels[1 : 1 + len(inner)]] == [norm(x) for x in inner]:
+                    if label.endswith("-own"):
+                        return [name, label, *labels[1:]]
+                    return [name, label, *labels[1 + len(inner) :]]
+        return [step[1], *labels[1:]]
+
+    def hops(self, place, to):
+        chain = self.fun.chain(place)
+        return chain.index(to) if to in chain else None
+
+    def body(self, text, place, where, var="c", inner=False):
+        """Turns the paths of a declaration's body."""
+        # what is bound to a place's record or to a path of it
+        bound = {var: []}
+        pattern = re.compile(rf"\blet ({W}) = ({W})((?:\.{W})*) in[ \n]+")
+        for it in pattern.finditer(text):
+            if it[2] in bound:
+                bound[it[1]] = bound[it[2]] + [x for x in it[3].split(".") if x]
+
+        def full(head, labels):
+            return bound[head] + labels
+
+        # a place's record that is handed to a lemma
+        def handed(found):
+            lemma, head, labels = found[1], found[2], found[3]
+            if head in bound and lemma in self.takes and all(x == "before" for x in full(head, labels.split(".")[1:])):
+                n = self.hops(place, self.takes[lemma])
+                if n is not None:
+                    self.uses.append((lemma, n, inner))
+                    if lemma in self.inner and not inner:
+                        n += 1
+                    return f"{lemma} {var}" + ".before" * n
+                self.said(f"{where}: {lemma} takes {self.takes[lemma]}, which is not above {place}")
+            return found[0]
+
+        text = re.sub(rf"(?<![^\s(\[,])({W}) ({W})((?:\.before)*)(?=[\s)\],]|$)", handed, text)
+
+        def one(found):
+            head, labels = found[1], found[2][1:].split(".")
+            if head not in bound:
+                return found[0]
+            if all(x == "before" for x in full(head, labels)):
+                return found[0]
+            whole = full(head, labels)
+            got = self.resolve(place, whole, where, inner)
+            if got is None:
+                return found[0]
+            if head != var and any(x != "before" for x in bound[head]):
+                short = self.resolve(place, bound[head], where + " (quiet)", inner)
+                if short and got == short + labels:
+                    return found[0]
+            return var + "." + ".".join(got)
+
+        def binding(found):
+            name = found[1]
+            if name not in bound or found[2] not in bound:
+                return found[0]
+            return found[0]
+
+        lines = PATH.sub(one, text)
+        # bindings that nothing uses any more
+        for name in list(bound):
+            if name == var:
+                continue
+            uses = re.findall(rf"(?<![^\s(\[,{{.]){re.escape(name)}(?=[\s.)\],}}]|$)", lines)
+            if len(uses) == 1:
+                lines = re.sub(rf"\blet {re.escape(name)} = {W}(?:\.{W})* in[ \n]+", "", lines)
+        return lines
+
+
+def turn(crate, path, fun, said):
+    text = open(path, encoding="utf-8").read()
+    where = os.path.relpath(os.path.dirname(path), crate + "/proofs")
+    if "tie.close" not in text:
+        said(f"{where}: no tie.close")
+        return False
+    inner = set()
+    while True:
+        t = Turner(fun, lambda _: None)
+        t.inner = inner
+        written(crate, path, text, where, t)
+        more = {lemma for lemma, n, by_inner in t.uses if n or by_inner} | {lemma for lemma in t.takes if t.takes[lemma] not in {norm(p[0]) for p in fun.of["asked_at"]}}
+        # the lemmas of one block share its record
+        more |= {lemma for lemma in t.takes if t.block.get(lemma) in {t.block.get(it) for it in more}}
+        if more <= inner:
+            break
+        inner = inner | more
+    t = Turner(fun, said)
+    t.inner = inner
+    for name, it in written(crate, path, text, where, t).items():
+        with open(os.path.dirname(path) + "/" + name, "w", encoding="utf-8") as out:
+            out.write(it)
+    os.remove(path)
+    return True
+
+
+def written(crate, path, text, where, t):
+    fun, said = t.fun, t.said
+    t.block = {}
+    blocks = paragraphs(text)
+    head = blocks[0]
+    comment = [it for it in head.split("\n") if it.startswith("--")]
+    uses = [it for it in head.split("\n") if it.startswith("use ")]
+    module = next(re.match(r"use (\S+)\.Tie as tie", it)[1] for it in uses if re.match(r"use (\S+)\.Tie as tie", it))
+    other = [it for it in uses if not re.search(r"\.(Tie as tie|Statement\.\{statement\})$", it)]
+    invariants, answers = [], []
+    names = {}
+    asked = {norm(place[0]): place[1] for place in fun.of["asked_at"]}
+    for block in blocks[1:]:
+        it = re.search(rf"(?m)^(?:pub )?({W}) : tie\.Need-({W})", block)
+        if it:
+            got = fun.need.get(norm(it[2]))
+            if got:
+                names[it[1]] = got[0]
+            continue
+        it = re.search(rf"\(({W}) : tie\.({W})", block)
+        if it and norm(it[2]) in fun.place:
+            for f in re.finditer(rf"(?m)^ *(?:abbrev )?(?:pub )?({W}) :", block):
+                t.takes[f[1]] = norm(it[2])
+                t.block[f[1]] = block[:80]
+    uses_lts = False
+    for block in blocks[1:]:
+        lines = block.split("\n")
+        notes = []
+        while lines and lines[0].startswith("--"):
+            notes.append(lines.pop(0))
+        code = "\n".join(lines)
+        if "tie.close" in block:
+            continue
+        it = re.match(rf"(?:abbrev )?(?:pub )?((invariant|decreases)-({W})) : tie\.({W})\n", code)
+        if it and it[4] == it[1]:
+            kind, loop = it[2], norm(it[3])
+            found = fun.loops.get(loop)
+            if not found:
+                said(f"{where}: no loop {it[3]}")
+                continue
+            (old, new), variables, changed = found
+            line = code[it.end() :]
+            m = re.match(rf"((?:unfolding[^\n]*\n)?){re.escape(it[1])}((?: (?:{W}|_))*) =(.*)", line, re.S)
+            params, body = m[2].split(), m[3]
+            want = [f"l.initial.{v}" if c else f"l.{v}" for v, c in zip(variables, changed)] + [f"l.{v}" for v, c in zip(variables, changed) if c]
+            if len(params) != len(want):
+                said(f"{where}: {it[1]} has {len(params)} parameters for {want}")
+            by = dict(zip(params, want))
+            by.pop("_", None)
+            body = re.sub(rf"(?<![^\s(\[,{{]){W}", lambda f: by.get(f[0], f[0]), body)
+            invariants.append("\n".join(notes + [f"abbrev pub {kind}-{new} : goal.{kind}-{new}", f"{m[1]}{kind}-{new} l ={body}"]))
+            continue
+
+        def named(body):
+            for old_name, new_name in names.items():
+                body = re.sub(rf"(?<![^\s(\[,{{]){re.escape(old_name)}(?=[\s)\],}}])", lambda _: new_name, body)
+            return body
+
+        it = re.match(rf"(?:pub )?({W}) : tie\.Need-({W})([^\n]*)\n", code)
+        if it:
+            got = fun.need.get(norm(it[2]))
+            rest = code[it.end() :]
+            b = re.search(rf"(?m)^{re.escape(it[1])}((?: {W})*) =(.*)\Z", rest, re.S)
+            if not got:
+                if b and b[2].strip() not in ("search rules",):
+                    said(f"{where}: no goal {it[2]}: dropped: {' '.join(rest.split())[:300]}")
+                continue
+            new, place = got
+            if b is None:
+                said(f"{where}: cannot read {it[1]}")
+                continue
+            if b[2].strip() == "search rules":
+                continue
+            unfolding = rest[: b.start()].strip()
+            params = [p for p in b[1].split() if p != "κs"]
+            body = t.body(b[2], place, f"{where}:{it[1]}", params[-1] if params else "c")
+            answers.append("\n".join(notes + [f"pub {new} : goal.{new}"] + ([unfolding] if unfolding else []) + [f"{new} {' '.join(params)} ={named(body)}"]))
+            continue
+        # a lemma of the file, perhaps over a place
+
+        is_inner = any(lemma in t.inner for lemma in t.takes if t.block[lemma] == block[:80])
+
+        def typed(f):
+            got = fun.place.get(norm(f[2]))
+            if got and not is_inner and norm(f[2]) in asked:
+                return f"({f[1]} : goal.{asked[norm(f[2])]}"
+            if got:
+                nonlocal uses_lts
+                uses_lts = True
+                old = next(p[0] for p in fun.of["places"] if norm(p[0]) == norm(f[2]))
+                return f"({f[1]} : lts.{old} {fun.given}"
+            said(f"{where}: no place {f[2]}")
+            return f[0]
+
+        f = re.search(rf"\(({W}) : tie\.({W})", code)
+        if f and norm(f[2]) in fun.place:
+            code = t.body(code, norm(f[2]), f"{where}:{code.split(' ')[0]}", f[1], is_inner)
+        code = re.sub(rf"\(({W}) : tie\.({W})((?: invariant-{W}| decreases-{W})*)", typed, code)
+        code = named(code)
+        if re.search(r"tie\.(?!the-claims)", code):
+            said(f"{where}: left: {' '.join(code.split())[:200]}")
+        answers.append("\n".join(notes + [code]))
+    end = [f"use {module}.Lts as lts", f"use {module}.Reads as reads"] + ([f"use {module}.Tie as tie"] if "tie." in fun.given else []) if uses_lts else []
+    out = {}
+    if invariants:
+        out["Invariants.antt"] = "\n".join(comment + other + [f"use {module}.Given as goal"]) + "\n\n" + "\n\n".join(invariants) + "\n"
+    if answers:
+        out["Answers.antt"] = "\n".join(comment + other + [f"use {module}.Goals as goal"] + end) + "\n\n" + "\n\n".join(answers) + "\n"
+    return out
+
+
+def main():
+    crate, names, *only = sys.argv[1:]
+    crate = crate.rstrip("/")
+    of = {}
+    for module, it in json.load(open(names, encoding="utf-8")).items():
+        if module.endswith(".Lts"):
+            of[norm(module.split(".", 1)[1][: -len(".Lts")].replace(".", "/"))] = it
+    for path in sorted(glob.glob(f"{glob.escape(crate)}/proofs/**/Proof.antt", recursive=True)):
+        function = os.path.dirname(os.path.relpath(path, f"{crate}/proofs"))
+        if only and function not in only:
+            continue
+        if norm(function) not in of:
+            print(f"{function}: not in the names")
+            continue
+        turn(crate, path, Function(of[norm(function)]), print)
+
+
+if __name__ == "__main__":
+    main()
