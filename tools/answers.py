@@ -21,10 +21,10 @@ class Function:
     def __init__(self, of):
         self.of = of
         self.stem = of.get("stem") or ""
-        self.need = {}
+        self.need, self.newer = {}, {}
         for (old, new), place in zip(of["needs"], of["asked_at"]):
-            for it in (old, new):
-                self.need.setdefault(norm(it), (new, norm(place[0])))
+            self.need.setdefault(norm(old), (new, norm(place[0])))
+            self.newer.setdefault(norm(new), (new, norm(place[0])))
         self.place = {}
         for it, name, typed, arm in zip(of["places"], of["places_by_name"], of["typed"], of["arms"] + [None] * len(of["places"])):
             self.place[norm(it[0])] = dict(name=name, prev=it[1] and norm(it[1]), step=it[2], callee=it[3], typed=typed, arm=arm)
@@ -33,6 +33,14 @@ class Function:
         bounds = [f"goal.the-{kind}-{a[1]}" for a, _ in of["loops"] for kind in ("invariant", "decreases")]
         # what the records of Lts take
         self.given = " ".join(claims + ["reads.Pre", "reads.Post"] + bounds)
+
+    def goal(self, name):
+        """Returns the goal of an old name, which may have the newer kind of goal in front."""
+        name = norm(name)
+        kind = re.match(r"(overflow|nonzero|float)-(.*)", name)
+        part = re.match(r"slice-bounds-(.*)-(start|end|length)$", name)
+        tries = [name] + ([kind[2]] if kind else []) + ([f"part-{part[1]}-{part[2]}", f"slice-aggregate-{part[1]}"] if part else [])
+        return next((self.need[it] for it in tries if it in self.need), None) or self.newer.get(name)
 
     def chain(self, place):
         out = []
@@ -73,11 +81,15 @@ class Turner:
             labels.pop(0)
         if not labels:
             return None
-        first = norm(labels[0])
-        if first in START:
-            return [labels[0].replace("-", "_"), *labels[1:]]
         chain = self.fun.chain(place)
-        here = next((p for p in chain if norm(self.fun.place[p]["step"][0]) == first), None) or next((p for p in chain if norm(self.fun.place[p]["step"][1]) == first), None)
+        # a table of lemmas' names may have taken a step for a lemma
+        for first in (norm(labels[0]), re.sub("-(law|lem)$", "", norm(labels[0])).lower()):
+            if first in START:
+                return [first.replace("-", "_"), *labels[1:]]
+            here = next((p for n in (0, 1) for p in chain if norm(self.fun.place[p]["step"][n]) == first), None)
+            here = here or next((p for p in chain if norm(self.fun.place[p]["step"][0]).lower() == first), None)
+            if here:
+                break
         if not here:
             self.said(f"{where}: no step {labels[0]}")
             return None
@@ -206,7 +218,7 @@ def written(crate, path, text, where, t):
     for block in blocks[1:]:
         it = re.search(rf"(?m)^(?:pub )?({W}) : tie\.Need-({W})", block)
         if it:
-            got = fun.need.get(norm(it[2]))
+            got = fun.goal(it[2])
             if got:
                 names[it[1]] = got[0]
             continue
@@ -251,7 +263,7 @@ def written(crate, path, text, where, t):
 
         it = re.match(rf"(?:pub )?({W}) : tie\.Need-({W})([^\n]*)\n", code)
         if it:
-            got = fun.need.get(norm(it[2]))
+            got = fun.goal(it[2])
             rest = code[it.end() :]
             b = re.search(rf"(?m)^{re.escape(it[1])}((?: {W})*) =(.*)\Z", rest, re.S)
             if not got:

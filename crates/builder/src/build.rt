@@ -20,7 +20,7 @@ use tape::append::{Appended, is_bad};
 use tape::room::lacks_event;
 use tape::unchecked;
 
-#[derive(Drop)]
+#[derive(Clone, Copy)]
 pub enum Container {
     Array,
     Dictionary,

@@ -16,7 +16,7 @@ pub fn open_words() -> usize
 
 // How many bytes are held; what is due behind them (due_of); how many containers are open; and a bit for each: whether a dictionary's key is
 // due behind it. Each word is a stack of 64 bits, the last one lowest. Behind the outermost container nothing is due, whatever its bit.
-#[derive(Drop)]
+#[derive(Clone, Copy)]
 pub struct Builder {
     pub held: usize,
     pub due: u32,

@@ -4,7 +4,7 @@ ghost use Rattle.calendar.specs.Calendar.{is_leap, days_in_year, days_before_yea
 ghost use Rattle.calendar.specs.Count.{count_off};
 
 // A part's number, a year's or a month's, and how many days of it lie before.
-#[derive(Drop)]
+#[derive(Clone, Copy)]
 pub(crate) struct Place {
     pub part: u32,
     pub rest: u32,

@@ -4,14 +4,14 @@ ghost use Rattle.calendar.specs.Date.{since_of, since_whole};
 ghost use Rattle.calendar.specs.Split.{split_of};
 
 // Seconds since 0001-01-01 00:00:00, or that they lie outside the range.
-#[derive(Drop)]
+#[derive(Clone, Copy)]
 pub(crate) enum Since {
     Seconds(u64),
     Outside,
 }
 
 // A magnitude: its whole part, and whether that is all of it.
-#[derive(Drop)]
+#[derive(Clone, Copy)]
 struct Split {
     whole: u64,
     exact: bool,

@@ -12,7 +12,7 @@ use crate::floor::{Since, since_of};
 use crate::months::{days_before_month, days_in_month, month_of};
 
 // A day and a time. Any numbers may stand here; `seconds_of` says whether there is such a day and time.
-#[derive(Drop)]
+#[derive(Clone, Copy)]
 pub struct Time {
     pub year: u32,
     pub month: u32,
@@ -23,14 +23,14 @@ pub struct Time {
 }
 
 // OutOfRange is refusal 30.
-#[derive(Drop)]
+#[derive(Clone, Copy)]
 pub enum Dated {
     At(Time),
     OutOfRange,
 }
 
 // NoSuchTime is refusal 30.
-#[derive(Drop)]
+#[derive(Clone, Copy)]
 pub enum Seconds {
     Of(i64),
     NoSuchTime,

@@ -70,7 +70,7 @@ fn put_minus(out: &mut [u8], at: usize, n: u64) -> Put
 }
 
 // A number, and what stands behind a minus.
-#[derive(Drop)]
+#[derive(Clone, Copy)]
 pub(crate) enum Sign {
     Plus(u64),
     Minus(u64),

@@ -5,7 +5,7 @@ pub mod stamp;
 ghost use Rattle.std.specs.Prelude.{◌≡◌, ◌+◌, leb};
 
 // The place behind what was put, or that it doesn't fit.
-#[derive(Drop)]
+#[derive(Clone, Copy)]
 pub enum Put {
     End(usize),
     NoRoom,

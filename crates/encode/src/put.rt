@@ -18,7 +18,7 @@ use utf::changed::Changed;
 use utf::unchecked;
 
 // How many bytes were put; or that there is no room for all of them, or that no scalar stands at a place of a tape.
-#[derive(Drop)]
+#[derive(Clone, Copy)]
 pub enum Put {
     Bytes(usize),
     NoRoom,
@@ -26,7 +26,7 @@ pub enum Put {
 }
 
 // The markers that a length stands in.
-#[derive(Drop)]
+#[derive(Clone, Copy)]
 pub enum Base {
     Data,
     Ascii,

@@ -10,14 +10,14 @@ use utf::unchecked;
 use utf::utf8::is_ascii;
 
 // The bytes of a scalar; of a text that isn't ASCII also its units, else 0.
-#[derive(Drop)]
+#[derive(Clone, Copy)]
 pub struct Size {
     pub bytes: usize,
     pub units: usize,
 }
 
 // That, or that no scalar stands there.
-#[derive(Drop)]
+#[derive(Clone, Copy)]
 pub enum Sized {
     Found(Size),
     NoScalar,

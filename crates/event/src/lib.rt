@@ -5,14 +5,14 @@ pub mod real;
 pub mod same;
 
 // A number that an i64 or a u64 holds. Two are compared by value.
-#[derive(Drop)]
+#[derive(Clone, Copy)]
 pub enum Integer {
     Signed(i64),
     Unsigned(u64),
 }
 
 // How many elements or pairs a container has, where that is known at its start.
-#[derive(Drop)]
+#[derive(Clone, Copy)]
 pub enum Length {
     Given(u64),
     NotGiven,
@@ -20,7 +20,7 @@ pub enum Length {
 
 // Data and text carry no bytes: where those stand is said beside the event. A real that is a number is Real; the bits of one
 // that isn't are Nan, since the language has one NaN only.
-#[derive(Drop)]
+#[derive(Clone, Copy)]
 pub enum Event {
     StartArray(Length),
     StartDictionary(Length),

@@ -8,7 +8,7 @@ use crate::{Event, Integer, Length};
 use number::signed::magnitude;
 
 // What an event is, the bytes of its data or text apart: a kind, and the number that it carries. The kinds are the tape's.
-#[derive(Drop)]
+#[derive(Clone, Copy)]
 pub struct Key {
     pub kind: u8,
     pub number: u64,

@@ -11,7 +11,7 @@ use number::signed::{Negative, negative_of};
 use tape::append::{Appended, append};
 
 // The event of a kind and a number, where there is one.
-#[derive(Drop)]
+#[derive(Clone, Copy)]
 pub enum Chosen {
     Event(Event),
     NoEvent,

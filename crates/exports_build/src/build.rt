@@ -17,7 +17,7 @@ use exports::write::{
 use grammar::answer::number_of;
 
 // An answer as numbers: 0 or a refusal's number, how many bytes are held or the refusal's place, and the kinds that 21 names.
-#[derive(Drop)]
+#[derive(Clone, Copy)]
 pub(crate) struct Numbers {
     pub code: u32,
     pub place: u64,

@@ -3,7 +3,7 @@ ghost use Rattle.std.specs.Prelude.{◌≡◌};
 ghost use Rattle.grammar.specs.Said.{number_of};
 
 // The kinds of events, as a refusal names what was expected and what was found.
-#[derive(Drop)]
+#[derive(Clone, Copy)]
 pub enum EventKind {
     ValueOrStartCollection,
     DictionaryKeyOrEndCollection,
@@ -20,7 +20,7 @@ pub enum EventKind {
 }
 
 // The refusals, by the names of docs/FORMAT.md, N. An unexpected event comes with what was expected, then what was found.
-#[derive(Drop)]
+#[derive(Clone, Copy)]
 pub enum Refusal {
     TooLong,
     TooDeep,
@@ -31,7 +31,7 @@ pub enum Refusal {
 }
 
 // How many events a whole tape has, or the refusal with its place.
-#[derive(Drop)]
+#[derive(Clone, Copy)]
 pub enum Checked {
     Whole(usize),
     Refused(Refusal, u64),

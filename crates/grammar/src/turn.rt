@@ -7,7 +7,7 @@ use crate::answer::{EventKind, Refusal};
 use event::Event;
 
 // What may come: the root, an element of an array, a key or a value of a dictionary, or nothing any more.
-#[derive(Drop)]
+#[derive(Clone, Copy)]
 pub enum Due {
     Root,
     Element,
@@ -18,7 +18,7 @@ pub enum Due {
 
 // An event is passed, and something is due behind it; it opens a container, in which something is due; it closes one; or it is refused.
 // How many containers are open doesn't count here. No public function answers it; it is public since laws of other crates go by its cases.
-#[derive(Drop)]
+#[derive(Clone, Copy)]
 pub enum Turn {
     Pass(Due),
     Open(Due),

@@ -12,7 +12,7 @@ use tape::step::quick_step;
 
 // Past a value or a key, with what is due then; into a container, with what is due in it and what is due behind it; out of the innermost
 // container, behind which something is due already; or nowhere, since the event is refused.
-#[derive(Drop)]
+#[derive(Clone, Copy)]
 pub enum Way {
     Past(Due),
     Into(Due, Due),
@@ -21,7 +21,7 @@ pub enum Way {
 }
 
 // That, and where the next event begins.
-#[derive(Drop)]
+#[derive(Clone, Copy)]
 pub(crate) struct Gone {
     pub way: Way,
     pub next: usize,

@@ -2,7 +2,7 @@
 
 // One of them: its object's number, how many of its references were handed out, its number of elements or pairs, its object's
 // offset.
-#[derive(Drop)]
+#[derive(Clone, Copy)]
 pub struct Frame {
     pub object: u32,
     pub position: u32,

@@ -13,7 +13,7 @@ use number::width::{Width, bytes_in};
 use object::container::{Container, container_at};
 use object::content::Extent;
 
-#[derive(Drop)]
+#[derive(Clone, Copy)]
 pub struct Layout {
     pub offsets: Width,
     pub refs: Width,
@@ -22,14 +22,14 @@ pub struct Layout {
 }
 
 // A number of a table, where it lies within the file.
-#[derive(Drop)]
+#[derive(Clone, Copy)]
 pub enum Entry {
     Of(u64),
     Outside,
 }
 
 // What is due in an open container: nothing, since it isn't the one that the state says (17); its end, with its offset; or an object.
-#[derive(Drop)]
+#[derive(Clone, Copy)]
 pub enum Due {
     Wrong,
     Close(u64),
@@ -37,7 +37,7 @@ pub enum Due {
 }
 
 // An open container's offset, and what stands there.
-#[derive(Drop)]
+#[derive(Clone, Copy)]
 pub struct Standing {
     pub offset: u64,
     pub container: Container,

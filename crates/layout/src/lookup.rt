@@ -12,14 +12,14 @@ use object::read::{Object, Part, object_at};
 use object::refusal::Refusal as ObjectRefusal;
 
 // Where the bytes of a scalar stand: in the file as they are, in the file as UTF-16, or nowhere, since it has none.
-#[derive(Drop)]
+#[derive(Clone, Copy)]
 pub enum Span {
     InFile(Part),
     InUtf16(Part),
     NoBytes,
 }
 
-#[derive(Drop)]
+#[derive(Clone, Copy)]
 pub enum Shape {
     Array,
     Dictionary,
@@ -27,7 +27,7 @@ pub enum Shape {
 
 // What an object is: not in this file (17); refused, with the place; a scalar with where its bytes stand, or a container with its length, and its
 // offset.
-#[derive(Drop)]
+#[derive(Clone, Copy)]
 pub enum Look {
     Missing,
     Refused(Refusal, u64),

@@ -6,7 +6,7 @@ use object::refusal::Refusal as ObjectRefusal;
 
 // An object's refusals, and those of the file, its trailer and its references, by the names of docs/FORMAT.md, N. What ends beyond T is an object's
 // refusal (6) everywhere: of an object, of a table entry, of the table itself.
-#[derive(Drop)]
+#[derive(Clone, Copy)]
 pub enum Refusal {
     TooLong,
     EndOfInput,

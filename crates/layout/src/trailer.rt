@@ -14,7 +14,7 @@ use number::width::{Size, Width, bytes_in, width_of};
 use object::refusal::Refusal as ObjectRefusal;
 
 // A refusal that leaves the reader as it was, one that ends it, or the layout and the root's number.
-#[derive(Drop)]
+#[derive(Clone, Copy)]
 pub enum TrailerRead {
     Keeps(Refusal, u64),
     Ends(Refusal, u64),

@@ -10,7 +10,7 @@ use digits::stamp::{STAMP_LENGTH, put_stamp};
 use event::Integer;
 
 // What follows a line's word: nothing, a number, one with its sign, or a day and time.
-#[derive(Drop)]
+#[derive(Clone, Copy)]
 pub enum Numeral {
     Nothing,
     Number(u64),
@@ -19,7 +19,7 @@ pub enum Numeral {
 }
 
 // What stands behind a line: nothing, or the number and the offset of the object that it comes from.
-#[derive(Drop)]
+#[derive(Clone, Copy)]
 pub enum Mark {
     Nothing,
     Origin(u64, u64),

@@ -18,7 +18,7 @@ use number::be::write_be;
 use number::copy::write_bytes;
 
 // The lines of one word about the listing itself.
-#[derive(Drop)]
+#[derive(Clone, Copy)]
 pub enum Fixed {
     Events,
     End,

@@ -13,7 +13,7 @@ use tape::unchecked::put_number;
 use tape::value::{Value, number_at};
 
 // How many bytes the path has then, or why no key is added.
-#[derive(Drop)]
+#[derive(Clone, Copy)]
 pub enum Added {
     Held(usize),
     NoRoom,

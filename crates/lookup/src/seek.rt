@@ -11,7 +11,7 @@ use tape::unchecked::end_of;
 use tape::value::{Value, number_at};
 
 // Where a value begins, or that there is none.
-#[derive(Drop)]
+#[derive(Clone, Copy)]
 pub(crate) enum Place {
     At(usize),
     Nowhere,

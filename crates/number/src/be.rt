@@ -4,20 +4,20 @@ ghost use Rattle.number.specs.Be.{be, bytes_of};
 ghost use Rattle.number.specs.Read.{number_of, halves_of};
 
 // What a part of a slice says when it is read as a number.
-#[derive(Drop)]
+#[derive(Clone, Copy)]
 pub enum Number {
     Of(u64),
     NoNumber,
 }
 
 // A number of 16 bytes.
-#[derive(Drop)]
+#[derive(Clone, Copy)]
 pub struct Halves {
     pub high: u64,
     pub low: u64,
 }
 
-#[derive(Drop)]
+#[derive(Clone, Copy)]
 pub enum WideNumber {
     Of(Halves),
     NoNumber,

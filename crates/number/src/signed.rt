@@ -3,7 +3,7 @@ ghost use Rattle.std.specs.Prelude.{◌≡◌};
 ghost use Rattle.number.specs.Signed.{signed_of, bits_of, magnitude_of, negative_of};
 
 // What a number k says when -1 - k is wanted.
-#[derive(Drop)]
+#[derive(Clone, Copy)]
 pub enum Negative {
     Of(i64),
     TooLow,

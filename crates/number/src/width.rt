@@ -2,7 +2,7 @@
 ghost use Rattle.std.specs.Prelude.{◌≡◌};
 ghost use Rattle.number.specs.Width.{width_of, bytes_in};
 
-#[derive(Drop)]
+#[derive(Clone, Copy)]
 pub enum Width {
     One,
     Two,
@@ -12,7 +12,7 @@ pub enum Width {
 }
 
 // What a size byte says.
-#[derive(Drop)]
+#[derive(Clone, Copy)]
 pub enum Size {
     Allowed(Width),
     NotAllowed,

@@ -4,7 +4,7 @@ ghost use Rattle.object.specs.Container.{container_at};
 
 use crate::content::{Content, Extent, head_at};
 
-#[derive(Drop)]
+#[derive(Clone, Copy)]
 pub enum Container {
     Array(Extent),
     Dictionary(Extent),

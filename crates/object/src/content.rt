@@ -9,13 +9,13 @@ use event::limits::MAX_LENGTH;
 use number::be::read_eight;
 
 // Where the content of an object stands, and how many elements it has: bytes, units, references or pairs.
-#[derive(Drop)]
+#[derive(Clone, Copy)]
 pub struct Extent {
     pub start: usize,
     pub count: u64,
 }
 
-#[derive(Drop)]
+#[derive(Clone, Copy)]
 pub enum Content {
     Fits(Extent),
     Refused(Refusal),

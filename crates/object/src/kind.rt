@@ -3,7 +3,7 @@ ghost use Rattle.std.specs.Prelude.{◌≡◌};
 ghost use Rattle.object.specs.Kind.{kind_of};
 
 // A number beside a kind is the width in bytes, or the low four bits of the marker.
-#[derive(Drop)]
+#[derive(Clone, Copy)]
 pub enum Kind {
     Null,
     False,

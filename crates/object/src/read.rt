@@ -20,14 +20,14 @@ use utf::utf8::is_utf8;
 use utf::utf16::is_utf16;
 
 // Bytes of the file.
-#[derive(Drop)]
+#[derive(Clone, Copy)]
 pub struct Part {
     pub start: usize,
     pub length: usize,
 }
 
 // Outside is an offset at or above the trailer. A container has its number of elements or pairs.
-#[derive(Drop)]
+#[derive(Clone, Copy)]
 pub enum Object {
     Outside,
     Refused(Refusal),

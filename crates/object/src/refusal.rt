@@ -3,7 +3,7 @@ ghost use Rattle.std.specs.Prelude.{◌≡◌};
 ghost use Rattle.object.specs.Refusal.{number_of};
 
 // The refusals, by the names of docs/FORMAT.md, N.
-#[derive(Drop)]
+#[derive(Clone, Copy)]
 pub enum Refusal {
     ObjectOffsetTooLarge,
     NullObjectUnimplemented,

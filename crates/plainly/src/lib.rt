@@ -21,7 +21,7 @@ use reader::opened::is_among;
 use reader::refusal::Refusal;
 
 // How it ends: the whole file was read; a refusal with its place; the budget is used up, and an event is next; the next event doesn't fit.
-#[derive(Drop)]
+#[derive(Clone, Copy)]
 pub enum Ending {
     Ended,
     Refused(Refusal, u64),
@@ -30,14 +30,14 @@ pub enum Ending {
 }
 
 // The ending, and how many bytes of the tape are held.
-#[derive(Drop)]
+#[derive(Clone, Copy)]
 pub struct Reading {
     pub ending: Ending,
     pub held: usize,
 }
 
 // How far it has come: the offset sought last, how many bytes of the tape are held, how many events the budget has left.
-#[derive(Drop)]
+#[derive(Clone, Copy)]
 pub(crate) struct Far {
     pub(crate) place: u64,
     pub(crate) held: usize,
@@ -45,7 +45,7 @@ pub(crate) struct Far {
 }
 
 // It goes on from there, or it is over.
-#[derive(Drop)]
+#[derive(Clone, Copy)]
 pub(crate) enum Went {
     On(Far),
     Over(Reading),

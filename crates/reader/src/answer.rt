@@ -4,7 +4,7 @@ use crate::state::Reader;
 use event::Event;
 
 // An event, and the number and the offset of the object that it comes from; for an end those of the container it closes.
-#[derive(Drop)]
+#[derive(Clone, Copy)]
 pub struct Record {
     pub event: Event,
     pub number: u32,
@@ -12,7 +12,7 @@ pub struct Record {
 }
 
 // A refusal comes with its place.
-#[derive(Drop)]
+#[derive(Clone, Copy)]
 pub enum Answer {
     Handed(Record),
     Ended,
@@ -20,7 +20,7 @@ pub enum Answer {
 }
 
 // The state after a call stands beside its answer.
-#[derive(Drop)]
+#[derive(Clone, Copy)]
 pub struct Stepped {
     pub reader: Reader,
     pub answer: Answer,

@@ -6,7 +6,7 @@ use layout::refusal::Refusal as FileRefusal;
 use object::refusal::Refusal as ObjectRefusal;
 
 // The file's refusals, and the reader's own, by the names of docs/FORMAT.md, N.
-#[derive(Drop)]
+#[derive(Clone, Copy)]
 pub enum Refusal {
     File(FileRefusal),
     RecursiveObject,

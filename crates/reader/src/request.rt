@@ -18,14 +18,14 @@ use utf::changed::Changed;
 use utf::utf16::{Utf8Length, utf8_length, utf16_to_utf8};
 
 // How many bytes a record's data or text has, 0 for any other record; a refusal comes with its place.
-#[derive(Drop)]
+#[derive(Clone, Copy)]
 pub enum TextLength {
     Length(u64),
     Refused(Refusal, u64),
 }
 
 // Where the bytes of a record stand: in the file as they are, in the file as UTF-16, or nowhere, since it has none; or the file doesn't give it.
-#[derive(Drop)]
+#[derive(Clone, Copy)]
 enum Asked {
     InFile(Part),
     InUtf16(Part),

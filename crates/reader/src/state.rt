@@ -6,7 +6,7 @@ use layout::frame::Frame;
 
 // What a reader keeps between calls: the file's length; from its trailer the sizes of offsets and references, the number of objects and
 // where the offset table begins; the last offset sought; the open containers. Of a fresh reader only the flag counts.
-#[derive(Drop)]
+#[derive(Clone, Copy)]
 pub struct Reader {
     pub fresh: bool,
     pub length: u32,

@@ -12,7 +12,7 @@ use number::signed::magnitude;
 use utf::utf8::is_utf8;
 
 // How many bytes are held afterwards, or why nothing is appended, with the place where the event would begin.
-#[derive(Drop)]
+#[derive(Clone, Copy)]
 pub enum Appended {
     Held(usize),
     BadEvent(u64),

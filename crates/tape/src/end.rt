@@ -5,7 +5,7 @@ ghost use Rattle.tape.specs.End.{after_size, after_number, after_negative, after
 use crate::room::lacks_room;
 use crate::value::{Value, number_at};
 
-#[derive(Drop)]
+#[derive(Clone, Copy)]
 pub enum End {
     At(usize),
     NoEvent,

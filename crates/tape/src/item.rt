@@ -2,7 +2,7 @@
 use event::Event;
 
 // An event, where the bytes of its data or text stand, and where the next event begins. Other events have no bytes, at the next event.
-#[derive(Drop)]
+#[derive(Clone, Copy)]
 pub struct Item {
     pub event: Event,
     pub start: usize,
@@ -10,7 +10,7 @@ pub struct Item {
     pub next: usize,
 }
 
-#[derive(Drop)]
+#[derive(Clone, Copy)]
 pub enum Step {
     Item(Item),
     Bad,

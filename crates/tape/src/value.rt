@@ -7,7 +7,7 @@ ghost use Rattle.tape.specs.declared.value.Value.TheVariants.{Of};
 use number::be::{Number, read_be};
 
 // A number and the place after it, or that none stands there in the form that the tape has.
-#[derive(Drop)]
+#[derive(Clone, Copy)]
 pub enum Value {
     Of(u64, usize),
     NoValue,

@@ -12,7 +12,7 @@ use layout::trailer::{TrailerRead, trailer_of};
 use reader::refusal::Refusal;
 
 // How a transcript ends: at the file's end, with the budget used up, or by a refusal of the reader, the text request or the tape.
-#[derive(Drop)]
+#[derive(Clone, Copy)]
 pub enum Ending {
     Ended,
     Stopped,
@@ -21,7 +21,7 @@ pub enum Ending {
 }
 
 // The ending, and how many bytes of the tape are held.
-#[derive(Drop)]
+#[derive(Clone, Copy)]
 pub struct Transcript {
     pub ending: Ending,
     pub held: usize,

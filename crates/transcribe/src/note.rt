@@ -23,14 +23,14 @@ use utf::changed::Changed;
 use utf::utf16::utf16_to_utf8;
 
 // Why an event is not noted.
-#[derive(Drop)]
+#[derive(Clone, Copy)]
 pub enum Failure {
     Refused(Refusal, u64),
     NoRoomForTape(u64),
 }
 
 // What noting one event answers: how many bytes are held then, or why nothing is.
-#[derive(Drop)]
+#[derive(Clone, Copy)]
 pub enum NoteAnswer {
     Held(usize),
     Fails(Failure),

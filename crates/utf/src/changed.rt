@@ -1,6 +1,6 @@
 // What a change of text from one form to the other answers.
 
-#[derive(Drop)]
+#[derive(Clone, Copy)]
 pub enum Changed {
     // How many bytes of the text now stand at the start of the lent memory.
     Written(usize),

@@ -12,7 +12,7 @@ use crate::unchecked;
 use crate::utf8::walk_utf8;
 
 // How many units a text has in UTF-16.
-#[derive(Drop)]
+#[derive(Clone, Copy)]
 pub enum Units {
     Count(usize),
     NotUtf8,

@@ -9,7 +9,7 @@ ghost use Rattle.utf.specs.Utf16At.{UnitAt, ScalarAt};
 use crate::changed::Changed;
 
 // How many bytes a text has in UTF-8.
-#[derive(Drop)]
+#[derive(Clone, Copy)]
 pub enum Utf8Length {
     Bytes(usize),
     NotUtf16,

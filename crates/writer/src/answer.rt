@@ -2,7 +2,7 @@
 use grammar::answer::Refusal;
 
 // The file's length; or the tape's refusal with its place; or what there is too little room for, or that the file would be too long.
-#[derive(Drop)]
+#[derive(Clone, Copy)]
 pub enum Written {
     Length(usize),
     Refused(Refusal, u64),

@@ -11,7 +11,7 @@ use encode::size::{Sized, head_size};
 use encode::unchecked;
 
 // The bytes of objects without their references, and how many references there are.
-#[derive(Drop)]
+#[derive(Clone, Copy)]
 pub(crate) struct Sums {
     pub(crate) bytes: usize,
     pub(crate) members: usize,

@@ -10,7 +10,7 @@ use crate::measure::{Sums, measure};
 use number::size::size_for;
 
 // How many objects there are, the bytes of a reference, where the offset table begins, and the file's length.
-#[derive(Drop)]
+#[derive(Clone, Copy)]
 pub(crate) struct Plan {
     pub(crate) count: usize,
     pub(crate) width: usize,

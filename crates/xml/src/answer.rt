@@ -5,7 +5,7 @@ ghost use Rattle.xml.specs.Said.{bar_number};
 use grammar::answer::Refusal;
 
 // Why an event has no XML: a real or a UID, text with a character that XML 1.0 doesn't allow, a date without a day and time.
-#[derive(Drop)]
+#[derive(Clone, Copy)]
 pub enum Bar {
     NoElement,
     NoCharacter,
@@ -14,7 +14,7 @@ pub enum Bar {
 
 // The XML's length; or the tape's refusal, or that of the first event that has no XML, with its place; or that the XML is longer than the
 // output.
-#[derive(Drop)]
+#[derive(Clone, Copy)]
 pub enum Answer {
     Length(usize),
     Refused(Refusal, u64),

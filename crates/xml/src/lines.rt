@@ -17,14 +17,14 @@ use tape::step::step;
 use tape::value::{Value, number_at};
 
 // The place behind the last line, or the first event that has none, with its place on the tape.
-#[derive(Drop)]
+#[derive(Clone, Copy)]
 pub(crate) enum Lines {
     End(usize),
     Barred(Bar, u64),
 }
 
 // An event's line, its way, and where the next event begins.
-#[derive(Drop)]
+#[derive(Clone, Copy)]
 pub(crate) struct Told {
     pub line: Line,
     pub way: Way,

@@ -21,7 +21,7 @@ use event::{Event, Integer};
 use grammar::turn::Due;
 
 // The place behind a line, whether there was room for it or not; or why there is none.
-#[derive(Drop)]
+#[derive(Clone, Copy)]
 pub(crate) enum Line {
     End(usize),
     Barred(Bar),
