@@ -17,9 +17,31 @@ PATH = re.compile(rf"(?<![^\s(\[,{{])({W})((?:\.{W})+)")
 norm = lambda it: re.sub(r"[-_]+", "-", it)
 
 
+def clauses(root):
+    """Returns, for each function of the repository, the names of its `requires` and of its `ensures`, where it has several of a kind."""
+    out = {}
+    for path in glob.glob(f"{root}/crates/*/src/**/*.rt", recursive=True):
+        crate, inside = re.search(r"crates/(\w+)/src/(.*)\.rt$", path).groups()
+        module = [crate] + ([] if inside in ("lib", "main") else inside.split("/"))
+        text = re.sub(r"//[^\n]*", "", open(path, encoding="utf-8").read())
+        owner = None
+        for it in re.finditer(r"(?m)^impl(?:<[^>]*>)? (?:\w+ for )?(\w+)[^\n]*\{$|^( *)(?:pub(?:\([a-z]+\))? )?(?:extern \"C\" )?fn (\w+)([^{}]*?)((?: *(?:requires|ensures)\*?(?: \w+)? \{(?:[^{}]|\{[^{}]*\})*\}\s*)*)(?=\{|;)", text):
+            if it[1]:
+                owner = it[1]
+                continue
+            name = module + ([owner] if it[2] else []) + [it[3]]
+            found = re.findall(r"(requires|ensures)\*?(?: (\w+))? \{", it[5])
+            out["::".join(name)] = {kind: [n for k, n in found if k == kind and n] for kind in ("requires", "ensures")}
+    return out
+
+
+CLAUSES = {}
+
+
 class Function:
-    def __init__(self, of):
+    def __init__(self, of, path):
         self.of = of
+        self.own = CLAUSES.get(path, {})
         self.stem = of.get("stem") or ""
         self.need, self.newer = {}, {}
         for (old, new), place in zip(of["needs"], of["asked_at"]):
@@ -30,9 +52,10 @@ class Function:
             self.place[norm(it[0])] = dict(name=name, prev=it[1] and norm(it[1]), step=it[2], callee=it[3], typed=typed, arm=arm)
         self.loops = {norm(a[0]): (a, b, changed) for (a, b), changed in zip(of["loops"], of["changed"])}
         claims = ["tie.the-claims"] if any(it[3] for it in of["places"]) else []
+        handed = ["tie.handed_clauses"] if len(self.own.get("ensures", [])) > 1 else []
         bounds = [f"goal.the-{kind}-{a[1]}" for a, _ in of["loops"] for kind in ("invariant", "decreases")]
         # what the records of Lts take
-        self.given = " ".join(claims + ["reads.Pre", "reads.Post"] + bounds)
+        self.given = " ".join(claims + ["reads.Pre", "reads.Post"] + handed + bounds)
 
     def goal(self, name):
         """Returns the goal of an old name, which may have the newer kind of goal in front."""
@@ -74,6 +97,23 @@ class Turner:
         self.inner = set()
         self.uses = []
 
+    def by_clause(self, labels, callee):
+        """Names a clause of a call's `ensures` in place of its number."""
+        if not callee or labels[1:2] != ["ensures"] or len(labels) < 3:
+            return labels
+        names = CLAUSES.get(callee, {}).get("ensures", [])
+        if len(names) < 2:
+            return labels
+        rest, at = labels[2:], 0
+        while rest and rest[0] == "1" and at < len(names) - 1:
+            at += 1
+            rest = rest[1:]
+        if at < len(names) - 1:
+            if rest[:1] != ["0"]:
+                return labels
+            rest = rest[1:]
+        return labels[:2] + [names[at]] + rest
+
     def resolve(self, place, labels, where, inner=False):
         """Returns the labels of the new path for `c.labels` at a place. How often a path goes back says nothing: a step's label stands once in a function."""
         labels = list(labels)
@@ -94,6 +134,7 @@ class Turner:
             self.said(f"{where}: no step {labels[0]}")
             return None
         step = self.fun.place[here]["step"]
+        labels = self.by_clause(labels, self.fun.place[here]["callee"])
         if inner:
             return [step[1], *labels[1:]]
         if labels[1:2] == ["given"]:
@@ -112,6 +153,9 @@ class Turner:
                         return [name, label, *labels[1:]]
                     return [name, label, *labels[1 + len(inner) :]]
         return [step[1], *labels[1:]]
+
+    def has_view(self, place):
+        return bool(self.fun.place[place]["typed"]) or any(self.fun.place[p]["arm"] for p in self.fun.chain(place))
 
     def hops(self, place, to):
         chain = self.fun.chain(place)
@@ -136,7 +180,7 @@ class Turner:
                 n = self.hops(place, self.takes[lemma])
                 if n is not None:
                     self.uses.append((lemma, n, inner))
-                    if lemma in self.inner and not inner:
+                    if lemma in self.inner and not inner and self.has_view(place):
                         n += 1
                     return f"{lemma} {var}" + ".before" * n
                 self.said(f"{where}: {lemma} takes {self.takes[lemma]}, which is not above {place}")
@@ -177,6 +221,44 @@ class Turner:
         return lines
 
 
+def bound_place(block):
+    """Binds the place that a lemma's type names without a name."""
+    return re.sub(rf"(?m)^( *(?:abbrev )?(?:pub )?{W} :) tie\.((?!Need-){W}(?: invariant-{W}| decreases-{W})*) →", r"\1 (c : tie.\2) →", block)
+
+
+def split_top(text):
+    """Splits a tuple's inside at its commas."""
+    parts, depth, at = [], 0, 0
+    for n, it in enumerate(text):
+        depth += it in "([{"
+        depth -= it in ")]}"
+        if it == "," and depth == 0:
+            parts.append(text[at:n])
+            at = n + 1
+    parts.append(text[at:])
+    return [it.strip() for it in parts if it.strip()]
+
+
+def as_record(body, names):
+    """Turns the tuple that a body ends in to a record of named clauses."""
+    text = body.rstrip()
+    if len(names) < 2 or not text.endswith(")"):
+        return body
+    depth, at = 0, len(text)
+    while at > 0:
+        at -= 1
+        depth += text[at] == ")"
+        depth -= text[at] == "("
+        if depth == 0:
+            break
+    parts = split_top(text[at + 1 : -1])
+    while 1 < len(parts) < len(names) and parts[-1].startswith("(") and parts[-1].endswith(")"):
+        parts = parts[:-1] + split_top(parts[-1][1:-1])
+    if len(parts) != len(names):
+        return body
+    return text[:at] + "(record { " + "; ".join(f"{n} = {v}" for n, v in zip(names, parts)) + " })"
+
+
 def turn(crate, path, fun, said):
     text = open(path, encoding="utf-8").read()
     where = os.path.relpath(os.path.dirname(path), crate + "/proofs")
@@ -215,7 +297,7 @@ def written(crate, path, text, where, t):
     invariants, answers = [], []
     names = {}
     asked = {norm(place[0]): place[1] for place in fun.of["asked_at"]}
-    for block in blocks[1:]:
+    for block in map(bound_place, blocks[1:]):
         it = re.search(rf"(?m)^(?:pub )?({W}) : tie\.Need-({W})", block)
         if it:
             got = fun.goal(it[2])
@@ -228,6 +310,7 @@ def written(crate, path, text, where, t):
                 t.takes[f[1]] = norm(it[2])
                 t.block[f[1]] = block[:80]
     uses_lts = False
+    locals_ = {}
     for block in blocks[1:]:
         lines = block.split("\n")
         notes = []
@@ -279,6 +362,8 @@ def written(crate, path, text, where, t):
             unfolding = rest[: b.start()].strip()
             params = [p for p in b[1].split() if p != "κs"]
             body = t.body(b[2], place, f"{where}:{it[1]}", params[-1] if params else "c")
+            if new.startswith("returns"):
+                body = as_record(body, fun.own.get("ensures", []))
             answers.append("\n".join(notes + [f"pub {new} : goal.{new}"] + ([unfolding] if unfolding else []) + [f"{new} {' '.join(params)} ={named(body)}"]))
             continue
         # a lemma of the file, perhaps over a place
@@ -297,6 +382,7 @@ def written(crate, path, text, where, t):
             said(f"{where}: no place {f[2]}")
             return f[0]
 
+        code = bound_place(code)
         f = re.search(rf"\(({W}) : tie\.({W})", code)
         if f and norm(f[2]) in fun.place:
             code = t.body(code, norm(f[2]), f"{where}:{code.split(' ')[0]}", f[1], is_inner)
@@ -305,7 +391,23 @@ def written(crate, path, text, where, t):
         if re.search(r"tie\.(?!the-claims)", code):
             said(f"{where}: left: {' '.join(code.split())[:200]}")
         answers.append("\n".join(notes + [code]))
+        plain = re.match(rf"(?:abbrev |unfoldable )?(?:pub )?({W}) :", code)
+        if plain and "c." not in code and "goal." not in code and "lts." not in code:
+            locals_[plain[1]] = len(answers) - 1
     end = [f"use {module}.Lts as lts", f"use {module}.Reads as reads"] + ([f"use {module}.Tie as tie"] if "tie." in fun.given else []) if uses_lts else []
+    # what the invariants speak of stands with them
+    moved, text_of = [], "\n".join(invariants)
+    while True:
+        more = [n for n in locals_ if n not in moved and re.search(rf"(?<![^\s(\[,{{]){re.escape(n)}(?=[\s)\],}}]|$)", text_of)]
+        if not more:
+            break
+        moved += more
+        text_of += "\n" + "\n".join(answers[locals_[n]] for n in more)
+    if moved:
+        shared = sorted((locals_[n], n) for n in moved)
+        invariants = [re.sub(rf"(?m)^((?:abbrev |unfoldable )?)(?:pub )?(?={re.escape(n)} :)", r"\1pub ", answers[at]) for at, n in shared] + invariants
+        answers = [it for at, it in enumerate(answers) if at not in {a for a, _ in shared}]
+        end.append(f"use {module}.Invariants.{{{', '.join(n for _, n in shared)}}}")
     out = {}
     if invariants:
         out["Invariants.antt"] = "\n".join(comment + other + [f"use {module}.Given as goal"]) + "\n\n" + "\n\n".join(invariants) + "\n"
@@ -316,7 +418,8 @@ def written(crate, path, text, where, t):
 
 def main():
     crate, names, *only = sys.argv[1:]
-    crate = crate.rstrip("/")
+    crate = os.path.abspath(crate)
+    CLAUSES.update(clauses(os.path.dirname(os.path.dirname(crate))))
     of = {}
     for module, it in json.load(open(names, encoding="utf-8")).items():
         if module.endswith(".Lts"):
@@ -328,7 +431,7 @@ def main():
         if norm(function) not in of:
             print(f"{function}: not in the names")
             continue
-        turn(crate, path, Function(of[norm(function)]), print)
+        turn(crate, path, Function(of[norm(function)], "::".join([os.path.basename(crate), *function.split("/")])), print)
 
 
 if __name__ == "__main__":
