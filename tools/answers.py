@@ -55,7 +55,7 @@ class Function:
         handed = ["tie.handed_clauses"] if len(self.own.get("ensures", [])) > 1 else []
         bounds = [f"goal.the-{kind}-{a[1]}" for a, _ in of["loops"] for kind in ("invariant", "decreases")]
         # what the records of Lts take
-        self.given = " ".join(claims + ["reads.Pre", "reads.Post"] + handed + bounds)
+        self.given = " ".join(claims + ["reads.Pre", "reads.Post"] + bounds + handed)
 
     def goal(self, name):
         """Returns the goal of an old name, which may have the newer kind of goal in front."""
