@@ -1,9 +1,10 @@
 #!/usr/bin/env python3
 """Turns each proof of a crate that walks a function's goals by `tie.close` into Invariants.antt and Answers.antt.
 
-usage: tools/answers.py CRATE NAMES [FUNCTION..]
+usage: tools/answers.py CRATE NAMES GENERATED [FUNCTION..]
 
-CRATE is a crate's folder. NAMES is the names.json that `rt check --generated DIR --old-names` writes there. With functions, as be/horner, only their
+CRATE is a crate's folder. NAMES is the names.json that `rt check --generated DIR --old-names` writes there, GENERATED what
+`rt check --generated GENERATED` writes where the proofs are turned already (a first run may give an empty folder). With functions, as be/horner, only their
 proofs are turned. It goes by text; what it can't tell it prints, and a check decides. Answers that are `search rules` alone go: the check tries that itself.
 """
 import glob
@@ -39,8 +40,17 @@ CLAUSES = {}
 
 
 class Function:
-    def __init__(self, of, path):
+    def __init__(self, of, path, generated=None):
         self.of = of
+        # the chain of the records of Lts, and the places that have a view, as the check generates them
+        self.before, self.views = {}, None
+        if generated and os.path.exists(generated + "/Lts.antt"):
+            text = open(generated + "/Lts.antt", encoding="utf-8").read()
+            self.before = {norm(a): norm(b) for a, b in re.findall(r"pub record (\S+) : Type 0 where\n +pub before : (\S+)", text)}
+        if generated and os.path.exists(generated + "/Lts/View.antt"):
+            text = open(generated + "/Lts/View.antt", encoding="utf-8").read()
+            # the place of Lts that each view stands on
+            self.views = {norm(a): norm(b) for a, b in re.findall(r"pub record In-(\S+) : Type 0 where\n +pub before : Lts\.(\S+)", text)}
         self.own = CLAUSES.get(path, {})
         self.stem = of.get("stem") or ""
         self.need, self.newer = {}, {}
@@ -128,6 +138,10 @@ class Turner:
                 return [first.replace("-", "_"), *labels[1:]]
             here = next((p for n in (0, 1) for p in chain if norm(self.fun.place[p]["step"][n]) == first), None)
             here = here or next((p for p in chain if norm(self.fun.place[p]["step"][0]).lower() == first), None)
+            if not here:
+                stem = re.sub(r"\d+$", "", first)
+                alike = [p for p in chain if re.sub(r"\d+$", "", norm(self.fun.place[p]["step"][0])) == stem]
+                here = alike[0] if len(alike) == 1 else None
             if here:
                 break
         if not here:
@@ -155,9 +169,20 @@ class Turner:
         return [step[1], *labels[1:]]
 
     def has_view(self, place):
-        return bool(self.fun.place[place]["typed"]) or any(self.fun.place[p]["arm"] for p in self.fun.chain(place))
+        if self.views is not None:
+            return norm(self.place[place]["name"]) in self.views
+        return bool(self.place[place]["typed"]) or any(self.place[p]["arm"] for p in self.chain(place))
 
     def hops(self, place, to):
+        """Returns how many records of Lts lie between a place's own and another's above it."""
+        if self.fun.before:
+            at, n = place, 0
+            if self.fun.views:
+                at = self.fun.views.get(norm(self.fun.place[place]["name"]), place)
+            while at != to and at in self.fun.before:
+                at = self.fun.before[at]
+                n += 1
+            return n if at == to else None
         chain = self.fun.chain(place)
         return chain.index(to) if to in chain else None
 
@@ -180,7 +205,7 @@ class Turner:
                 n = self.hops(place, self.takes[lemma])
                 if n is not None:
                     self.uses.append((lemma, n, inner))
-                    if lemma in self.inner and not inner and self.has_view(place):
+                    if lemma in self.inner and not inner and self.fun.has_view(place):
                         n += 1
                     return f"{lemma} {var}" + ".before" * n
                 self.said(f"{where}: {lemma} takes {self.takes[lemma]}, which is not above {place}")
@@ -417,7 +442,7 @@ def written(crate, path, text, where, t):
 
 
 def main():
-    crate, names, *only = sys.argv[1:]
+    crate, names, generated, *only = sys.argv[1:]
     crate = os.path.abspath(crate)
     CLAUSES.update(clauses(os.path.dirname(os.path.dirname(crate))))
     of = {}
@@ -431,7 +456,7 @@ def main():
         if norm(function) not in of:
             print(f"{function}: not in the names")
             continue
-        turn(crate, path, Function(of[norm(function)], "::".join([os.path.basename(crate), *function.split("/")])), print)
+        turn(crate, path, Function(of[norm(function)], "::".join([os.path.basename(crate), *function.split("/")]), f"{generated}/Rattle-{os.path.basename(crate)}-proofs/{function}"), print)
 
 
 if __name__ == "__main__":
