@@ -169,9 +169,9 @@ class Turner:
         return [step[1], *labels[1:]]
 
     def has_view(self, place):
-        if self.views is not None:
-            return norm(self.place[place]["name"]) in self.views
-        return bool(self.place[place]["typed"]) or any(self.place[p]["arm"] for p in self.chain(place))
+        if self.fun.views is not None:
+            return norm(self.fun.place[place]["name"]) in self.fun.views
+        return bool(self.fun.place[place]["typed"]) or any(self.fun.place[p]["arm"] for p in self.fun.chain(place))
 
     def hops(self, place, to):
         """Returns how many records of Lts lie between a place's own and another's above it."""
@@ -205,7 +205,7 @@ class Turner:
                 n = self.hops(place, self.takes[lemma])
                 if n is not None:
                     self.uses.append((lemma, n, inner))
-                    if lemma in self.inner and not inner and self.fun.has_view(place):
+                    if lemma in self.inner and not inner and self.has_view(place):
                         n += 1
                     return f"{lemma} {var}" + ".before" * n
                 self.said(f"{where}: {lemma} takes {self.takes[lemma]}, which is not above {place}")
@@ -265,23 +265,48 @@ def split_top(text):
 
 
 def as_record(body, names):
-    """Turns the tuple that a body ends in to a record of named clauses."""
+    """Turns what a body ends in, a tuple or a pair that a lemma gives, to a record of named clauses."""
     text = body.rstrip()
-    if len(names) < 2 or not text.endswith(")"):
+    if len(names) < 2:
         return body
-    depth, at = 0, len(text)
-    while at > 0:
-        at -= 1
-        depth += text[at] == ")"
-        depth -= text[at] == "("
-        if depth == 0:
-            break
-    parts = split_top(text[at + 1 : -1])
-    while 1 < len(parts) < len(names) and parts[-1].startswith("(") and parts[-1].endswith(")"):
-        parts = parts[:-1] + split_top(parts[-1][1:-1])
-    if len(parts) != len(names):
+    if text.endswith(")"):
+        depth, at = 0, len(text)
+        while at > 0:
+            at -= 1
+            depth += text[at] == ")"
+            depth -= text[at] == "("
+            if depth == 0:
+                break
+        parts = split_top(text[at + 1 : -1])
+        while 1 < len(parts) < len(names) and parts[-1].startswith("(") and parts[-1].endswith(")"):
+            parts = parts[:-1] + split_top(parts[-1][1:-1])
+        if len(parts) == len(names):
+            return text[:at] + "(record { " + "; ".join(f"{n} = {v}" for n, v in zip(names, parts)) + " })"
+        inside = text[at + 1 : -1]
+        if re.match(r"[\s\n]*rw ", last_of(text)[1]) and re.match(W + " ", inside) and not inside.startswith(("rw ", "omega", "simp", "search", "cc")):
+            return text[:at] + "(" + pair(inside, names) + ")"
+    front, last = last_of(text)
+    if re.match(rf"(rw|omega|simp|search|cc|grind|absurd|elim|record|\()", last) or re.fullmatch(r"c(\.\S+)+", last):
         return body
-    return text[:at] + "(record { " + "; ".join(f"{n} = {v}" for n, v in zip(names, parts)) + " })"
+    return f"{front}{pair(last, names)}"
+
+
+def last_of(text):
+    """Splits a body at what stands behind its last `in`."""
+    depth, at = 0, 0
+    for it in re.finditer(r"[()\[\]{}]|\bin\b", text):
+        depth += it[0] in "([{"
+        depth -= it[0] in ")]}"
+        if it[0] == "in" and depth == 0:
+            at = it.end()
+    gap = re.match(r"\s*", text[at:])[0]
+    return text[: at + len(gap)], text[at + len(gap) :]
+
+
+def pair(term, names):
+    """A record of the parts of a pair, or of a pair in a pair."""
+    paths = [".1" * n + ".0" for n in range(len(names) - 1)] + [".1" * (len(names) - 1)]
+    return f"let both = {term} in record {{ " + "; ".join(f"{n} = both{p}" for n, p in zip(names, paths)) + " }"
 
 
 def turn(crate, path, fun, said):
@@ -373,7 +398,7 @@ def written(crate, path, text, where, t):
         if it:
             got = fun.goal(it[2])
             rest = code[it.end() :]
-            b = re.search(rf"(?m)^{re.escape(it[1])}((?: {W})*) =(.*)\Z", rest, re.S)
+            b = re.search(rf"(?m)^{re.escape(it[1])}((?: [^\s=(){{}}]+)*) =(.*)\Z", rest, re.S)
             if not got:
                 if b and b[2].strip() not in ("search rules",):
                     said(f"{where}: no goal {it[2]}: dropped: {' '.join(rest.split())[:300]}")
