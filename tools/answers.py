@@ -149,16 +149,14 @@ class Turner:
             return None
         step = self.fun.place[here]["step"]
         labels = self.by_clause(labels, self.fun.place[here]["callee"])
-        if inner:
-            return [step[1], *labels[1:]]
-        if labels[1:2] == ["given"]:
+        if labels[1:2] == ["given"] and not inner:
             for p in chain:
                 for var, known in self.fun.place[p]["typed"]:
                     if norm(known) == norm(step[0]):
                         return ["type_inv", var, *labels[2:]]
         for p in chain:
             arm = self.fun.place[p]["arm"]
-            if not arm:
+            if not arm or inner and "Past-" + p not in self.fun.before:
                 continue
             name, _, fields = arm
             for label, of, inner in sorted(fields, key=lambda f: -len(f[2])):
@@ -179,10 +177,10 @@ class Turner:
             at, n = place, 0
             if self.fun.views:
                 at = self.fun.views.get(norm(self.fun.place[place]["name"]), place)
-            while at != to and at in self.fun.before:
+            while at not in (to, "Past-" + to) and at in self.fun.before:
                 at = self.fun.before[at]
                 n += 1
-            return n if at == to else None
+            return n if at in (to, "Past-" + to) else None
         chain = self.fun.chain(place)
         return chain.index(to) if to in chain else None
 
@@ -294,7 +292,7 @@ def as_record(body, names):
 def last_of(text):
     """Splits a body at what stands behind its last `in`."""
     depth, at = 0, 0
-    for it in re.finditer(r"[()\[\]{}]|\bin\b", text):
+    for it in re.finditer(r"[()\[\]{}]|(?<![^\s)\]}])in(?=\s)", text):
         depth += it[0] in "([{"
         depth -= it[0] in ")]}"
         if it[0] == "in" and depth == 0:
@@ -428,6 +426,7 @@ def written(crate, path, text, where, t):
                 nonlocal uses_lts
                 uses_lts = True
                 old = next(p[0] for p in fun.of["places"] if norm(p[0]) == norm(f[2]))
+                old = "Past-" + old if "Past-" + norm(old) in fun.before else old
                 return f"({f[1]} : lts.{old} {fun.given}"
             said(f"{where}: no place {f[2]}")
             return f[0]
