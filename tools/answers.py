@@ -245,7 +245,7 @@ class Turner:
         for name in list(bound):
             if name == var:
                 continue
-            uses = re.findall(rf"(?<![^\s(\[,{{.]){re.escape(name)}(?=[\s.)\],}}]|$)", lines)
+            uses = re.findall(rf"(?<![^\s(\[,{{]){re.escape(name)}(?=[\s.)\],}}]|$)", lines)
             if len(uses) == 1:
                 lines = re.sub(rf"\blet {re.escape(name)} = {W}(?:\.{W})* in[ \n]+", "", lines)
         return lines
