@@ -47,6 +47,7 @@ class Function:
         if generated and os.path.exists(generated + "/Lts.antt"):
             text = open(generated + "/Lts.antt", encoding="utf-8").read()
             self.before = {norm(a): norm(b) for a, b in re.findall(r"pub record (\S+) : Type 0 where\n +pub before : (\S+)", text)}
+            self.views = {}
         if generated and os.path.exists(generated + "/Lts/View.antt"):
             text = open(generated + "/Lts/View.antt", encoding="utf-8").read()
             # the place of Lts that each view stands on
