@@ -182,9 +182,10 @@ class Turner:
     def hops(self, place, to):
         """Returns how many records of Lts lie between a place's own and another's above it."""
         if self.fun.before:
-            at, n = place, 0
+            past = "Past-" + place
+            at, n = past if past in self.fun.before else place, 0
             if self.fun.views:
-                at = self.fun.views.get(norm(self.fun.place[place]["name"]), place)
+                at = self.fun.views.get(norm(self.fun.place[place]["name"]), at)
             while at not in (to, "Past-" + to) and at in self.fun.before:
                 at = self.fun.before[at]
                 n += 1
