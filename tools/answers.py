@@ -101,6 +101,9 @@ def paragraphs(text):
             out[-1] += "\n\n" + it
         else:
             out.append(it)
+    # the file's comment may stand apart from its uses
+    while len(out) > 1 and "\nuse " not in "\n" + out[0]:
+        out[:2] = [out[0] + "\n" + out[1]]
     return out
 
 
