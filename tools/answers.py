@@ -377,7 +377,7 @@ def written(crate, path, text, where, t):
                 t.block[f[1]] = block[:80]
     uses_lts = False
     locals_ = {}
-    for block in blocks[1:]:
+    for block in map(bound_place, blocks[1:]):
         lines = block.split("\n")
         notes = []
         while lines and lines[0].startswith("--"):
