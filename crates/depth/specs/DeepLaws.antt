@@ -30,7 +30,7 @@ use Rattle.reader.specs.declared.state.Reader.{Reader}
 use Rattle.written.specs.Encoding.{list}
 use Rattle.written.specs.File.{bytes_at, place_of, file_of}
 use Rattle.written.specs.Graph.{box, number, object_of}
-use Rattle.written.specs.NumberLaws.{number_lt}
+use Rattle.written.proofs.NumberLaws.{number_lt}
 use Rattle.written_claims.specs.Frames.{no_member, inside, innermost_is, step_start, root_start}
 use Rattle.written_claims.specs.Laid.{layout_of, refs_size, object_whole, few, trailer, entry}
 use Rattle.written_claims.specs.NextBack.{next_open, next_first}

@@ -12,7 +12,7 @@ use Rattle.number.specs.BeLaws.{length_bytes_of}
 use Rattle.number.specs.Size.{size_of}
 use Rattle.written.specs.Encoding.{list, nibble_of, head_bytes, numbers_bytes, object_bytes}
 use Rattle.written.specs.File.{flat, ahead, ref_size, bytes_at, body, place_of, table_at, offset_size, table, file_of, file_for}
-use Rattle.written.specs.FileLaws.{file_length}
+use Rattle.written.proofs.FileLaws.{file_length}
 use Rattle.written.specs.Graph.{arr, start, box, same, kids, number, body_of, object_of}
 use Rattle.depth.specs.Nested.{nest, refs, step, offset, table_for, offsets, chain, places, nested, length_for}
 use Rattle.depth.specs.PieceLaws.{pieces, pieces_of, kids_none, kids_one, boxes, es, order_are, emission_are, count_is, number_is, drop_pieces}

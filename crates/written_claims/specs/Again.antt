@@ -13,7 +13,7 @@ use Rattle.grammar.specs.FitsLaws.{fits_check}
 use Rattle.grammar.specs.Said.{whole}
 use Rattle.written.specs.File.{file_for}
 use Rattle.written.specs.Graph.{arr, dic, Piece, start, piece_of, box, kids, evens, number, body_of, object_of}
-use Rattle.written.specs.NameLaws.{drop_next, length_evens}
+use Rattle.written.proofs.NameLaws.{drop_next, length_evens}
 use Rattle.writer.specs.CheckLaws.{fits_is}
 use Rattle.written_claims.specs.Accepted.{Accepted, sound}
 use Rattle.written_claims.specs.FileShown.{fine}

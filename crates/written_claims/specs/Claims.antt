@@ -22,10 +22,10 @@ use Rattle.reader.specs.Meanings.{meaning_at}
 use Rattle.tape.specs.Code.{bytes_for, allowed}
 use Rattle.tape.specs.EventsLaws.{all_dates}
 use Rattle.written.specs.File.{bytes_at, place_of, file_of, file_for}
-use Rattle.written.specs.FileLaws.{order_some}
+use Rattle.written.proofs.FileLaws.{order_some}
 use Rattle.written.specs.Graph.{Scalar, Piece, piece_of, val, box, order, number, object_of, meant}
-use Rattle.written.specs.NameLaws.{In}
-use Rattle.written.specs.NumberLaws.{order_in, number_at_law}
+use Rattle.written.proofs.NameLaws.{In}
+use Rattle.written.proofs.NumberLaws.{order_in, number_at_law}
 use Rattle.written_claims.specs.Accepted.{Accepted, layout_for, sound}
 use Rattle.object.specs.End.{end_at}
 use Rattle.written_claims.specs.End.{nibble_at, LengthByte}

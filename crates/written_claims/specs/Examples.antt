@@ -5,7 +5,7 @@ use Rattle.std.proofs.Common.{ap, lit<, lit≤}
 use Rattle.number.specs.declared.width.Width.TheVariants.{One}
 use Rattle.event.specs.Meaning.{Meaning, array, dictionary, close, integer, text}
 use Rattle.layout.specs.declared.layout.Layout.{Layout}
-use Rattle.written.specs.Examples.{examples}
+use Rattle.written.proofs.Examples.{examples}
 use Rattle.written.specs.File.{file_for}
 use Rattle.written_claims.specs.Accepted.{Accepted}
 use Rattle.written_claims.specs.Computed.{computed}

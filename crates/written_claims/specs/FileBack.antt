@@ -19,10 +19,10 @@ use Rattle.reader.specs.Machine as machine
 use Rattle.reader.specs.Meanings.{Told, ended, told, answers, meaning_at}
 use Rattle.reader.specs.State.{fresh_reader}
 use Rattle.transcribe.specs.TranscriptLaws.{told_of}
-use Rattle.written.specs.EmissionLaws.{in_emission, written_numbered}
+use Rattle.written.proofs.EmissionLaws.{in_emission, written_numbered}
 use Rattle.written.specs.File.{place_of, file_of}
 use Rattle.written.specs.Graph.{Scalar, Kind, arr, dic, Piece, scalar, start, end, Name, val, box, kids, evens, order, number, object_of, meant, spoken}
-use Rattle.written.specs.NameLaws.{In, drop_next, in_here, in_there, in_right}
+use Rattle.written.proofs.NameLaws.{In, drop_next, in_here, in_there, in_right}
 use Rattle.written.specs.Weigh.{counted}
 use Rattle.written_claims.specs.AskedLaws.{own_scalar, own_start, own_end}
 use Rattle.written_claims.specs.Back.{event_by}

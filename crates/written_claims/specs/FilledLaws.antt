@@ -12,7 +12,7 @@ use Rattle.transcribe.specs.TranscriptLaws.{meanings_of}
 use Rattle.written.specs.File.{place_of}
 use Rattle.written.specs.Graph.{arr, dic, Piece, scalar, start, end, piece_of, Name, kids, meant}
 use Rattle.written.specs.Shape.{Due, element, key, later, takes, opens, closes, fits, whole}
-use Rattle.written.specs.WholeLaws.{passed, begun}
+use Rattle.written.proofs.WholeLaws.{passed, begun}
 use Rattle.written_claims.specs.Filled.{members, filled, handed_from, handed_of}
 use Rattle.written_claims.specs.Writable.{meant_is}
 

@@ -17,15 +17,15 @@ use Rattle.layout.specs.ReferencesLaws.{Dues, dues}
 use Rattle.layout.specs.declared.layout.Due.TheVariants.{Close, Member}
 use Rattle.layout.specs.declared.layout.Layout.{Layout}
 use Rattle.layout.specs.declared.frame.Frame.{Frame}
-use Rattle.written.specs.EmissionLaws.{numbered_written}
+use Rattle.written.proofs.EmissionLaws.{numbered_written}
 use Rattle.written.specs.File.{ref_size, bytes_at, place_of, table_at, file_of}
-use Rattle.written.specs.FirstLaws.{Stands, emission_told}
+use Rattle.written.proofs.FirstLaws.{Stands, emission_told}
 use Rattle.written.specs.Graph.{Scalar, Kind, arr, dic, Piece, scalar, start, end, Name, val, box, kids, order, number, object_of}
-use Rattle.written.specs.NameLaws.{In, get_d_map_lt}
-use Rattle.written.specs.NumberLaws.{order_in, number_at_law}
+use Rattle.written.proofs.NameLaws.{In, get_d_map_lt}
+use Rattle.written.proofs.NumberLaws.{order_in, number_at_law}
 use Rattle.written.specs.Shape.{inside, name_of, is_end}
 use Rattle.written.specs.Weigh.{counted}
-use Rattle.written.specs.WholeLaws.{Parity, whole_parity}
+use Rattle.written.proofs.WholeLaws.{Parity, whole_parity}
 use Rattle.written_claims.specs.FileShown.{fine, file_shows}
 use Rattle.written_claims.specs.Filled.{shape_of}
 use Rattle.written_claims.specs.Back.{Known, event_by, due_member, due_end, look_box, look_val}

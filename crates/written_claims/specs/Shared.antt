@@ -10,13 +10,13 @@ use Rattle.std.proofs.Math.Dec.{ltb}
 use Rattle.std.proofs.Math.ListN.{get_or}
 use Rattle.event.specs.Format.{max_open}
 use Rattle.layout.specs.declared.layout.Layout.{Layout}
-use Rattle.written.specs.CountLaws.{times, times_in, times_out, times_distinct}
+use Rattle.written.proofs.CountLaws.{times, times_in, times_out, times_distinct}
 use Rattle.written.specs.File.{file_of}
-use Rattle.written.specs.FirstLaws.{sum_of}
+use Rattle.written.proofs.FirstLaws.{sum_of}
 use Rattle.written.specs.Graph.{Piece, Name, box, same, order, number}
-use Rattle.written.specs.NameLaws.{In, in_here, in_there, same_sound, same_refl, drop_lt, drop_next, drop_get_d}
+use Rattle.written.proofs.NameLaws.{In, in_here, in_there, same_sound, same_refl, drop_lt, drop_next, drop_get_d}
 use Rattle.written.specs.Nub.{has}
-use Rattle.written.specs.NumberLaws.{number_lt, number_at_law, number_one, order_in, order_distinct}
+use Rattle.written.proofs.NumberLaws.{number_lt, number_at_law, number_one, order_in, order_distinct}
 use Rattle.written_claims.specs.Laid.{layout_of}
 use Rattle.written_claims.specs.Members.{members_of, Parent, own_parent, parent_own, member_named, parent_or_root}
 use Rattle.written_claims.specs.Objects.{references_are, references_none}

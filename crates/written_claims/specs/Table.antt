@@ -8,7 +8,7 @@ use Rattle.event.specs.Meaning.{array, dictionary, close, boolean, integer, text
 use Rattle.reader.specs.Cases as reading
 use Rattle.reader.specs.Meanings.{Told, means, ended, answers}
 use Rattle.reader.specs.State.{fresh_reader}
-use Rattle.written.specs.Examples as writing
+use Rattle.written.proofs.Examples as writing
 use Rattle.written.specs.File.{file_for}
 use Rattle.written_claims.specs.Computed.{computed}
 

@@ -4,7 +4,7 @@ use Rattle.std.proofs.Math.Path.{sym, ap}
 use Rattle.std.proofs.Common.{◌∙◌, zero-add}
 use Rattle.std.proofs.Math.ListN.{get_or}
 use Rattle.written.specs.Graph.{Kind, Piece, start, Name, same, kids, names, order, number}
-use Rattle.written.specs.NameLaws.{same_sound, same_refl, same_comm, In, in_here, in_left, in_right, kids_in_names}
+use Rattle.written.proofs.NameLaws.{same_sound, same_refl, same_comm, In, in_here, in_left, in_right, kids_in_names}
 use Rattle.written.specs.Nub.{distinct, nub_has, nub_first, nub_distinct, index_of_lt, index_of_get_d, get_d_index_of, has_get_d}
 
 module _ (all : List Piece) where

@@ -4,7 +4,7 @@ use Rattle.std.proofs.Common.{ap, arith}
 use Rattle.std.proofs.lemmas.Bool.{false≢true}
 use mathlib.Core.List.{List, [], ◌∷◌, nil≢cons, head-eq_of_cons-eq, tail-eq_of_cons-eq}
 use Rattle.written.specs.Graph.{Kind, arr, Piece, scalar, start, end, Name, val, box, kids}
-use Rattle.written.specs.NameLaws.{scalar_start, end_start}
+use Rattle.written.proofs.NameLaws.{scalar_start, end_start}
 use Rattle.written.specs.Shape.{Due, element, key, value, later, inside, takes, opens, closes, fits, whole}
 
 -- both sides of a test that passed

@@ -8,7 +8,7 @@ use mathlib.Core.List.{List, [], ◌∷◌, ◌++◌, append_assoc}
 use Rattle.std.proofs.Math.ListN.{length, length-append}
 use Rattle.written.specs.File.{flat, ahead, bytes_at, body}
 use Rattle.written.specs.Graph.{Piece, Name, same, spoken, emission}
-use Rattle.written.specs.NameLaws.{In, same_sound, same_refl}
+use Rattle.written.proofs.NameLaws.{In, same_sound, same_refl}
 use Rattle.written.specs.Nub.{has, nub, nub_onto, nub_append}
 
 module _ (f : Name → List ℕ) where

@@ -7,8 +7,8 @@ use mathlib.Core.List.{List, [], ◌∷◌, nil≢cons}
 use Prim.Native.Nat.{ℕ, zero, suc, ◌+◌, ◌≤◌, ◌<◌}
 use Rattle.std.proofs.Math.Numerals.{add-one}
 use native.Mathlib.Omega.{arith}
-use Rattle.written.specs.NameLaws.{drop_lt, drop_next}
-use Rattle.written.specs.WholeLaws.{passed}
+use Rattle.written.proofs.NameLaws.{drop_lt, drop_next}
+use Rattle.written.proofs.WholeLaws.{passed}
 use Rattle.written.specs.Graph.{Scalar, Kind, dic, Piece, scalar, start, end, Name, val, box, kids, evens, odds}
 use Rattle.written.specs.Shape.{Due, element, key, later, inside, takes, opens, closes, fits, whole, skip, name_of, next_in, next_at, is_end, Along, InPairs}
 

@@ -5,15 +5,15 @@ use Rattle.std.proofs.lemmas.List.{length-map}
 use Rattle.number.specs.Be.{bytes_of}
 use Rattle.number.specs.BeLaws.{length_bytes_of}
 use Rattle.event.specs.Format.{magic}
-use Rattle.written.specs.EmissionLaws.{numbered_written}
+use Rattle.written.proofs.EmissionLaws.{numbered_written}
 use Rattle.written.specs.Encoding.{numbers_bytes, trailer_bytes}
 use Rattle.written.specs.File.{ref_size, body, place_of, table_at, offset_size, table, file_of}
-use Rattle.written.specs.FirstLaws.{sum_of, part_of, is_first, along, sum_along, emission_told}
+use Rattle.written.proofs.FirstLaws.{sum_of, part_of, is_first, along, sum_along, emission_told}
 use Rattle.written.specs.Graph.{Piece, Name, same, order}
 use Rattle.written.specs.Nub.{has}
-use Rattle.written.specs.NumberLaws.{order_distinct, number_lt, root_named}
+use Rattle.written.proofs.NumberLaws.{order_distinct, number_lt, root_named}
 use Rattle.written.specs.Shape.{whole, name_of}
-use Rattle.written.specs.WholeLaws.{root_only}
+use Rattle.written.proofs.WholeLaws.{root_only}
 
 pub length_numbers : (w : ℕ) (ns : List ℕ) → length (numbers_bytes w ns) ≡ length ns * w
 unfolding numbers_bytes

@@ -4,7 +4,7 @@ use Rattle.std.proofs.Common.{sym, ap, ◌∙◌, append_assoc, append-nil, add-
 use Rattle.written.specs.Graph.{Scalar, Kind, arr, dic, Piece, scalar, start, end, Name, val, box, same, kids, evens, odds, laid, names, spoken}
 use Rattle.written.specs.Nub.{has, has_append}
 use Rattle.written.specs.Shape.{whole, skip, next_at, InPairs}
-use Rattle.written.specs.ShapeLaws.{in_pairs}
+use Rattle.written.proofs.ShapeLaws.{in_pairs}
 use Rattle.written.specs.Upto.{names_upto, spoken_upto, names_at, spoken_at}
 
 -- in front of a list that comes in two parts

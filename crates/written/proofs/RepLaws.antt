@@ -9,7 +9,7 @@ use Rattle.std.proofs.Math.Nat.{zero-add}
 use borrow.Author.Tests.{eqb-true, eqb-false}
 use Rattle.std.proofs.Math.Dec.{eqb}
 use Rattle.std.proofs.Math.ListN.{get_or}
-use Rattle.written.specs.NameLaws.{drop_lt, drop_next, same_sound, same_refl, In, in_here, in_there, in_drop}
+use Rattle.written.proofs.NameLaws.{drop_lt, drop_next, same_sound, same_refl, In, in_here, in_there, in_drop}
 use Rattle.written.specs.Graph.{Scalar, Kind, arr, dic, Piece, scalar, start, end, Name, val, box, same, kids, evens, odds, laid, names, spoken}
 use Rattle.written.specs.Nub.{has, nub_onto, index_of, get_d_index_of}
 use Rattle.written.specs.Shape.{name_of}

@@ -11,10 +11,10 @@ use native.Mathlib.Omega.{arith}
 use borrow.Author.Tests.{eqb-true, eqb-false, ne_eqb, lt-ltb, le-ltb, ltb-true, ltb-false}
 use Rattle.std.proofs.Math.Dec.{ltb, eqb}
 use Rattle.std.proofs.Math.ListN.{length, drop}
-use Rattle.written.specs.CountLaws.{in_evens}
-use Rattle.written.specs.EmissionLaws.{spoken_here, spoken_there, in_emission, from_emission}
+use Rattle.written.proofs.CountLaws.{in_evens}
+use Rattle.written.proofs.EmissionLaws.{spoken_here, spoken_there, in_emission, from_emission}
 use Rattle.written.specs.Graph.{arr, dic, Piece, scalar, start, end, Name, val, box, same, kids, evens, spoken, emission}
-use Rattle.written.specs.NameLaws.{In, in_here, in_there, in_append, same_sound, same_refl, drop_lt, drop_next, drop_done, drop_get_d}
+use Rattle.written.proofs.NameLaws.{In, in_here, in_there, in_append, same_sound, same_refl, drop_lt, drop_next, drop_done, drop_get_d}
 use Rattle.written.specs.Nub.{has, distinct, index_of_lt, get_d_index_of}
 use Rattle.written.specs.Shape.{name_of, is_end}
 use Rattle.written.specs.Weigh.{event_names, rep_of}

@@ -3,7 +3,7 @@ use Rattle.std.specs.Prelude.{◌≡◌, refl, Bool, true, false, cond, List, []
 use Rattle.std.proofs.Common.{◌∙◌, true≢false, arith}
 use Rattle.std.proofs.lemmas.Bool.{false≢true}
 use Rattle.written.specs.Graph.{Kind, arr, dic, Name, same, evens, odds, laid}
-use Rattle.written.specs.NameLaws.{In, same_sound}
+use Rattle.written.proofs.NameLaws.{In, same_sound}
 use Rattle.written.specs.Nub.{has, distinct}
 
 -- how often x stands there

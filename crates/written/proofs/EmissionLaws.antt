@@ -2,13 +2,13 @@
 use Rattle.std.specs.Prelude.{◌≡◌, refl, Bool, true, false, cond, ◌⊎◌, List, [], ◌∷◌, ◌++◌, ℕ, zero, suc, ◌+◌, ◌≤◌, ltb, length}
 use Rattle.std.proofs.Common.{sym, ◌∙◌, true≢false, inl, inr, arith}
 use Rattle.std.proofs.lemmas.Bool.{false≢true}
-use Rattle.written.specs.CountLaws.{times, times_append, times_in, times_out, times_halves, times_laid, out_laid, sum}
+use Rattle.written.proofs.CountLaws.{times, times_append, times_in, times_out, times_halves, times_laid, out_laid, sum}
 use Rattle.written.specs.Graph.{Kind, arr, dic, Piece, scalar, start, end, Name, val, box, same, kids, evens, laid, names, order, spoken, emission}
-use Rattle.written.specs.NameLaws.{In, in_here, in_there, in_right, in_append, same_sound}
+use Rattle.written.proofs.NameLaws.{In, in_here, in_there, in_right, in_append, same_sound}
 use Rattle.written.specs.Nub.{has, nub_has}
-use Rattle.written.specs.NumberLaws.{in_order, from_order}
+use Rattle.written.proofs.NumberLaws.{in_order, from_order}
 use Rattle.written.specs.Shape.{Due, later, inside, takes, opens, closes, fits, whole, name_of, is_end}
-use Rattle.written.specs.WholeLaws.{passed, begun}
+use Rattle.written.proofs.WholeLaws.{passed, begun}
 
 -- what is written is what is spoken
 pub in_emission : (es : List Piece) (x : Name) → In x (spoken 0 es) → In x (emission es)

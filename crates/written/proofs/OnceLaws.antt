@@ -3,11 +3,11 @@ use Rattle.std.specs.Prelude.{◌≡◌, refl, Bool, true, false, cond, ℕ, zer
 use Rattle.std.proofs.Common.{ap, ◌∙◌, suc-add, add-suc, arith, eqb-true, eq-eqb, ne_eqb}
 use Rattle.std.proofs.lemmas.Bool.{false≢true}
 use mathlib.Core.List.{List, [], ◌∷◌, ◌++◌, nil≢cons, head-eq_of_cons-eq}
-use Rattle.written.specs.CountLaws.{times, times_append, times_laid, sum}
+use Rattle.written.proofs.CountLaws.{times, times_append, times_laid, sum}
 use Rattle.written.specs.Graph.{Kind, Piece, scalar, start, end, Name, box, same, kids, laid, names}
-use Rattle.written.specs.NameLaws.{scalar_start, end_start}
+use Rattle.written.proofs.NameLaws.{scalar_start, end_start}
 use Rattle.written.specs.Shape.{Due, later, inside, takes, opens, closes, fits, whole}
-use Rattle.written.specs.WholeLaws.{passed, begun, none_outside}
+use Rattle.written.proofs.WholeLaws.{passed, begun, none_outside}
 
 -- the containers
 unfoldable pub starts : ℕ → List Piece → List Name

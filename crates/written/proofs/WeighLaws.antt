@@ -9,14 +9,14 @@ use native.Mathlib.Omega.{arith}
 use Rattle.std.proofs.Math.ListN.{length, length-append, length-map}
 use Rattle.written.specs.Encoding.{head_bytes, scalar_bytes, numbers_bytes, object_bytes}
 use Rattle.written.specs.File.{flat, ref_size, bytes_at, body}
-use Rattle.written.specs.FileLaws.{length_numbers}
-use Rattle.written.specs.FirstLaws.{sum_of, is_first, along, part_all, sum_along, emission_told, told_emission, rep_box}
+use Rattle.written.proofs.FileLaws.{length_numbers}
+use Rattle.written.proofs.FirstLaws.{sum_of, is_first, along, part_all, sum_along, emission_told, told_emission, rep_box}
 use Rattle.written.specs.Graph.{Scalar, Kind, arr, dic, Piece, scalar, start, end, Name, val, box, same, kids, evens, odds, number, body_of, object_of, spoken, emission, meant}
-use Rattle.written.specs.NameLaws.{same_comm, length_evens, length_odds, drop_next}
+use Rattle.written.proofs.NameLaws.{same_comm, length_evens, length_odds, drop_next}
 use Rattle.written.specs.Nub.{nub_distinct}
 use Rattle.written.specs.Shape.{whole, name_of}
 use Rattle.written.specs.Weigh.{rep_of, counted, weight_of, weight_from, members_of, members_from}
-use Rattle.written.specs.WholeLaws.{whole_parity}
+use Rattle.written.proofs.WholeLaws.{whole_parity}
 
 pub length_flat : (f : Name → List ℕ) (l : List Name) → length (flat f l) ≡ sum_of (λ x. length (f x)) l
 unfolding flat sum_of
