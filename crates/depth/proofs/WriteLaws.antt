@@ -10,8 +10,8 @@ use Rattle.writer.specs.Write.{long, refused, words_for, fitted_of, by_check, wr
 use Rattle.written.specs.File.{file_for}
 use Rattle.written_claims.specs.Accepted.{Accepted}
 use Rattle.written_claims.specs.Writes.{accepted_of}
-use Rattle.depth.specs.CheckLaws.{bytes_in_law, meanings_are, within_checked, deep_checked}
-use Rattle.depth.specs.FileLaws.{written, length_nested}
+use Rattle.depth.proofs.CheckLaws.{bytes_in_law, meanings_are, within_checked, deep_checked}
+use Rattle.depth.proofs.FileLaws.{written, length_nested}
 use Rattle.depth.specs.Nested.{nest, arrays, refs, step, offset, table_for, offsets, nested, length_for}
 
 -- no reference and no offset has more than 8 bytes

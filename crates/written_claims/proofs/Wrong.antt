@@ -23,7 +23,7 @@ use Rattle.tape.specs.Events.{tape_of}
 use Rattle.transcribe.specs.Run.{transcript_of}
 use Rattle.transcribe.specs.Run as run
 use Rattle.transcribe.specs.TranscriptLaws.{Put, told_of, meanings_of}
-use Rattle.written_claims.specs.Claims.{LookedUp, lone, holding, EndsBefore}
+use Rattle.written_claims.proofs.Claims.{LookedUp, lone, holding, EndsBefore}
 use Rattle.written_claims.specs.Computed.{computed}
 use Rattle.written_claims.specs.Filled.{filled}
 use Rattle.written_claims.specs.Outcome.{scratch_needed, Holds}

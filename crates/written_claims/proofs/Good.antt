@@ -18,13 +18,13 @@ use Rattle.transcribe.specs.Run.{ended, transcript_of}
 use Rattle.transcribe.specs.TranscriptLaws.{Put, told_of, meanings_of}
 use Rattle.written.specs.File.{file_for}
 use Rattle.written_claims.specs.Accepted.{Accepted, layout_for}
-use Rattle.written_claims.specs.Again.{accepted_again, written_again}
-use Rattle.written_claims.specs.Claims.{LookedUp, EndsBefore}
-use Rattle.written_claims.specs.Claims as claims
+use Rattle.written_claims.proofs.Again.{accepted_again, written_again}
+use Rattle.written_claims.proofs.Claims.{LookedUp, EndsBefore}
+use Rattle.written_claims.proofs.Claims as claims
 use Rattle.written_claims.specs.Filled.{filled, handed_of}
-use Rattle.written_claims.specs.ReadBack.{means_back, handed_means}
-use Rattle.written_claims.specs.ReadEnds.{ends_back}
-use Rattle.written_claims.specs.ReadWhole.{whole_back}
+use Rattle.written_claims.proofs.ReadBack.{means_back, handed_means}
+use Rattle.written_claims.proofs.ReadEnds.{ends_back}
+use Rattle.written_claims.proofs.ReadWhole.{whole_back}
 use Rattle.written_claims.specs.Outcome.{Enough, outcome_of, Holds, ComesTo}
 use Rattle.written_claims.specs.References.{named_by, all_references, Names, Reached, mentions}
 

@@ -13,10 +13,10 @@ use Rattle.written.specs.File.{file_for}
 use Rattle.tape.specs.Events.{meanings_in}
 use Rattle.writer.specs.Write.{long, words_for, write_of}
 use Rattle.writer.specs.Write as writer
-use Rattle.depth.specs.DeepLaws.{deep_read}
+use Rattle.depth.proofs.DeepLaws.{deep_read}
 use Rattle.depth.specs.Nested.{arrays, refs, step, offset, table_for, offsets, chain, places, nested, length_for, opened, closing, told_for}
-use Rattle.depth.specs.ReadLaws.{read_back}
-use Rattle.depth.specs.WriteLaws.{file_of_law, within_written, deep_refused}
+use Rattle.depth.proofs.ReadLaws.{read_back}
+use Rattle.depth.proofs.WriteLaws.{file_of_law, within_written, deep_refused}
 
 -- two arrays and their table: the first names 1, which stands at 10
 pub two : take 13 (nested 1) ≡ magic ++ (0xA1 ∷ 0x01 ∷ 0xA0 ∷ 0x08 ∷ 0x0A ∷ [])

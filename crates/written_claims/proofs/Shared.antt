@@ -19,7 +19,7 @@ use Rattle.written.specs.Nub.{has}
 use Rattle.written.proofs.NumberLaws.{number_lt, number_at_law, number_one, order_in, order_distinct}
 use Rattle.written_claims.specs.Laid.{layout_of}
 use Rattle.written_claims.specs.Members.{members_of, Parent, own_parent, parent_own, member_named, parent_or_root}
-use Rattle.written_claims.specs.Objects.{references_are, references_none}
+use Rattle.written_claims.proofs.Objects.{references_are, references_none}
 use Rattle.written_claims.specs.References.{named_by, all_references, Names, Reached, at_root, along, mentions}
 use Rattle.written_claims.specs.Sharing.{parent_numbered, lower, own_times, parent_before}
 use Rattle.written_claims.specs.Writable.{Sound}

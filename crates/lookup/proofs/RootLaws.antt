@@ -12,12 +12,12 @@ use Rattle.grammar.specs.Said as check
 use Rattle.grammar.specs.Turn.{after_of}
 use Rattle.grammar.specs.declared.turn.Due.TheVariants.{Root}
 use Rattle.lookup.specs.Find.{found, placed, by_path, find_of}
-use Rattle.lookup.specs.FindLaws.{find_whole, check_rest}
+use Rattle.lookup.proofs.FindLaws.{find_whole, check_rest}
 use Rattle.lookup.specs.Path.{keys_of}
 use Rattle.lookup.specs.RestLaws.{rest_long}
 use Rattle.lookup.specs.Value.{value_from, behind, from_path}
-use Rattle.lookup.specs.ValueLaws.{value_split}
-use Rattle.lookup.specs.WholeLaws.{value_fits, fits_ended}
+use Rattle.lookup.proofs.ValueLaws.{value_split}
+use Rattle.lookup.proofs.WholeLaws.{value_fits, fits_ended}
 
 -- events that are one whole root are one value
 pub whole_value : (ms : List Meaning) → fits_from Root [] ms ≡ true → value_from 0 ms ≡ ms

@@ -16,7 +16,7 @@ use Rattle.tape.specs.Value.{number_from, number_at}
 use Rattle.tape.specs.declared.value.Value.TheVariants.{NoValue}
 use Rattle.written.specs.Graph.{Kind, arr, dic}
 use Rattle.written_claims.specs.Lengths.{TapePiece, event, given, bytes_in, tape_from, place_of, Formed, Malformed, shape_of}
-use Rattle.written_claims.specs.NumeralLaws.{none_there, numeral_read}
+use Rattle.written_claims.proofs.NumeralLaws.{none_there, numeral_read}
 
 -- a piece that is an event's bytes
 pub record EventIn (p : TapePiece) (m : Meaning) : Type 0 where

@@ -31,12 +31,12 @@ use Rattle.object.specs.End.{end_at}
 use Rattle.written_claims.specs.End.{nibble_at, LengthByte}
 use Rattle.written_claims.specs.EndLaws.{object_ended}
 use Rattle.written_claims.specs.FileShown.{fine}
-use Rattle.written_claims.specs.FileBack.{event_means}
+use Rattle.written_claims.proofs.FileBack.{event_means}
 use Rattle.written_claims.specs.Back.{event_by}
 use Rattle.written_claims.specs.Laid.{refs_size, offsets_size, trailer_at_law, object_there, object_whole, trailer, entry}
-use Rattle.written_claims.specs.Objects.{look_value, look_holder, references_many, Numbered, value, holder, numbered, object_below}
+use Rattle.written_claims.proofs.Objects.{look_value, look_holder, references_many, Numbered, value, holder, numbered, object_below}
 use Rattle.written_claims.specs.References.{named_by, all_references, Names, Reached, mentions}
-use Rattle.written_claims.specs.Shared as shared
+use Rattle.written_claims.proofs.Shared as shared
 
 -- an object is looked up as a scalar or a container, at an offset below the table
 pub data LookedUp (file : List ℕ) (l : Layout) (i : ℕ) : Type 0 where

@@ -36,7 +36,7 @@ use Rattle.written_claims.specs.Laid.{layout_of, refs_size, object_whole, few, t
 use Rattle.written_claims.specs.NextBack.{next_open, next_first}
 use Rattle.written_claims.specs.ObjectLaws.{object_shown}
 use Rattle.written_claims.specs.Shown.{Fine, ListShown}
-use Rattle.depth.specs.FileLaws.{named, refs_is, object_is, place_is, file_is, length_nested}
+use Rattle.depth.proofs.FileLaws.{named, refs_is, object_is, place_is, file_is, length_nested}
 use Rattle.depth.specs.Nested.{refs, offset, nested, length_for, opened}
 use Rattle.depth.specs.PieceLaws.{es, count_is, is_named, number_is}
 

@@ -16,13 +16,13 @@ use Rattle.transcribe.specs.Run.{Run, transcript_of}
 use Rattle.transcribe.specs.TranscriptLaws.{Put, meanings_of}
 use Rattle.written.specs.File.{file_for}
 use Rattle.written_claims.specs.Accepted.{Accepted}
-use Rattle.written_claims.specs.Again.{accepted_again, length_filled}
+use Rattle.written_claims.proofs.Again.{accepted_again, length_filled}
 use Rattle.written_claims.specs.Filled.{handed_of}
 use Rattle.written_claims.specs.HandsOut.{HandOut}
-use Rattle.written_claims.specs.ReadBack.{said_of, said_back, bytes_back, handed_means}
+use Rattle.written_claims.proofs.ReadBack.{said_of, said_back, bytes_back, handed_means}
 use Rattle.written_claims.specs.Outcome.{Outcome, outcome_of, ComesTo}
-use Rattle.written_claims.specs.OutcomeLaws.{Shortage, shortage, put_room}
-use Rattle.written_claims.specs.Whole.{ran, run_back}
+use Rattle.written_claims.proofs.OutcomeLaws.{Shortage, shortage, put_room}
+use Rattle.written_claims.proofs.Whole.{ran, run_back}
 
 same_length : (file : List ℕ) (ps : List Put) (xs : List Said) → HandOut file ps xs → length xs ≡ length ps
 same_length file [] [] h = refl

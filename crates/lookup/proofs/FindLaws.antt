@@ -18,7 +18,7 @@ use Rattle.lookup.specs.Path.{with_key, keys_from, keys_in, keys_of, is_some}
 use Rattle.lookup.specs.Rest.{Rest}
 use Rattle.lookup.specs.RestLaws.{rest_long, rest_start}
 use Rattle.lookup.specs.Value.{value_from, behind, into, from_path}
-use Rattle.lookup.specs.ValueLaws.{value_long}
+use Rattle.lookup.proofs.ValueLaws.{value_long}
 
 module _ (tape key : List ℕ) (ms : List Meaning) where
   -- a step that leads nowhere

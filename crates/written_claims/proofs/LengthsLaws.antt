@@ -33,9 +33,9 @@ use Rattle.written.specs.File.{file_for}
 use Rattle.written.specs.Graph.{arr, dic, piece_of}
 use Rattle.writer.specs.Write.{refused, by_check, write_of}
 use Rattle.written_claims.specs.Lengths.{TapePiece, event, given, bytes_in, tape_from, place_of, Formed, Malformed, shape_of, LengthsApart, Answers, equal, at_piece, in_rest, at_end, one_long, other_long, one_malformed, other_malformed}
-use Rattle.written_claims.specs.Same.{pieces_unmeasured, file_same}
-use Rattle.written_claims.specs.SameAnswers.{answered}
-use Rattle.written_claims.specs.TapePieceLaws.{Front, front_held, front_shape, front_length, front_tape, front_place, Walked, over, stuck, walked, bytes_behind}
+use Rattle.written_claims.proofs.Same.{pieces_unmeasured, file_same}
+use Rattle.written_claims.proofs.SameAnswers.{answered}
+use Rattle.written_claims.proofs.TapePieceLaws.{Front, front_held, front_shape, front_length, front_tape, front_place, Walked, over, stuck, walked, bytes_behind}
 
 -- the first of two lists, then the second
 take_both : (i : ℕ) (ms ns : List Meaning) → take i (ms ++ ns) ≡ take i ms ++ take (i - length ms) ns

@@ -15,12 +15,12 @@ use Rattle.transcribe.specs.TranscriptLaws.{told_of}
 use Rattle.written.specs.File.{place_of}
 use Rattle.written.specs.Graph.{end, Name, box, kids}
 use Rattle.written_claims.specs.Filled.{handed_from, handed_of}
-use Rattle.written_claims.specs.ReadBack.{means_back}
-use Rattle.depth.specs.CheckLaws.{length_nest}
-use Rattle.depth.specs.FileLaws.{written, place_is}
+use Rattle.written_claims.proofs.ReadBack.{means_back}
+use Rattle.depth.proofs.CheckLaws.{length_nest}
+use Rattle.depth.proofs.FileLaws.{written, place_is}
 use Rattle.depth.specs.Nested.{nest, offset, nested, opened, closing, told_for}
 use Rattle.depth.specs.PieceLaws.{pieces, pieces_of, kids_none, kids_one, es}
-use Rattle.depth.specs.WriteLaws.{accepted}
+use Rattle.depth.proofs.WriteLaws.{accepted}
 
 -- the places of the first n, the innermost first
 abbrev down : ℕ → List ℕ

@@ -24,7 +24,7 @@ use Rattle.grammar.specs.declared.turn.Due.TheVariants.{Root, Element, Key, Valu
 use Rattle.grammar.specs.declared.turn.Turn.{Turn}
 use Rattle.grammar.specs.declared.turn.Turn.TheVariants.{Pass, Open, Close, Stop}
 use Rattle.lookup.specs.Value.{deeper, value_from, behind}
-use Rattle.lookup.specs.ValueLaws.{value_here, value_on, behind_here, behind_on}
+use Rattle.lookup.proofs.ValueLaws.{value_here, value_on, behind_here, behind_on}
 
 -- what may be due inside a container
 abbrev Inside : Due → Type 0

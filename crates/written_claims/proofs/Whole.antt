@@ -28,7 +28,7 @@ use Rattle.transcribe.specs.Note as note
 use Rattle.transcribe.specs.Run.{Run, run, refused, by_noted, by_note, by_said, run_of}
 use Rattle.transcribe.specs.TranscriptLaws.{Put, meanings_of}
 use Rattle.written_claims.specs.HandsOut.{content_of, scratch_for, HandsOut, HandOut}
-use Rattle.written_claims.specs.HandsOutLaws.{content_is}
+use Rattle.written_claims.proofs.HandsOutLaws.{content_is}
 use Rattle.written_claims.specs.Outcome.{Outcome, put_first, outcome_of}
 
 -- an event that is handed out: too long for the scratch, too long for the tape, or noted

@@ -21,12 +21,12 @@ use Rattle.grammar.specs.declared.turn.Due.{Due}
 use Rattle.grammar.specs.declared.turn.Due.TheVariants.{Root, Element, Key, Value, Nothing}
 use Rattle.grammar.specs.declared.turn.Turn.TheVariants.{Pass}
 use Rattle.lookup.specs.Find.{Said, found, not_found, refused, placed, by_path, by_check, find_of, part_by, part_of}
-use Rattle.lookup.specs.FindLaws.{check_rest}
+use Rattle.lookup.proofs.FindLaws.{check_rest}
 use Rattle.lookup.specs.Path.{keys_of}
 use Rattle.lookup.specs.Rest.{Rest}
 use Rattle.lookup.specs.Value.{value_from, behind, under_key, into, from_path, first_of, value_at}
-use Rattle.lookup.specs.ValueLaws.{value_split, value_tape}
-use Rattle.lookup.specs.WholeLaws.{Awaits, fits_onto, fits_open, value_fits}
+use Rattle.lookup.proofs.ValueLaws.{value_split, value_tape}
+use Rattle.lookup.proofs.WholeLaws.{Awaits, fits_onto, fits_open, value_fits}
 
 -- events behind others
 abbrev Behind : List Meaning → List Meaning → Type 0

@@ -9,11 +9,11 @@ use Rattle.written.specs.File.{file_for}
 use Rattle.written_claims.specs.Accepted.{Accepted}
 use Rattle.written_claims.specs.Filled.{filled, handed_of}
 use Rattle.written_claims.specs.HandsOut.{scratch_for}
-use Rattle.written_claims.specs.ReadBack.{handed_means}
-use Rattle.written_claims.specs.ReadEnds.{length_handed, ends_back, which_first}
+use Rattle.written_claims.proofs.ReadBack.{handed_means}
+use Rattle.written_claims.proofs.ReadEnds.{length_handed, ends_back, which_first}
 use Rattle.written_claims.specs.Outcome.{scratch_needed, tape_needed, budget_needed, Enough, Outcome, outcome, outcome_of, Holds}
-use Rattle.written_claims.specs.OutcomeLaws as laws
-use Rattle.written_claims.specs.OutcomeLaws.{bytes_of, HasRoom, Reaches, needed_same}
+use Rattle.written_claims.proofs.OutcomeLaws as laws
+use Rattle.written_claims.proofs.OutcomeLaws.{bytes_of, HasRoom, Reaches, needed_same}
 
 module _ (ms : List Meaning) (a : Accepted ms) (budget : ℕ) (scratch tape : List ℕ) where
   abbrev room : Type 0

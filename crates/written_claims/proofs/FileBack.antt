@@ -29,10 +29,10 @@ use Rattle.written_claims.specs.Back.{event_by}
 use Rattle.written_claims.specs.FileShown.{file_shows}
 use Rattle.written_claims.specs.Filled.{shape_of, handed_from, origin_of, said_from, event_in}
 use Rattle.written_claims.specs.HandsOut.{AsksOwn, HandsOut, HandOut}
-use Rattle.written_claims.specs.HandsOutLaws.{hands_out, told_all}
+use Rattle.written_claims.proofs.HandsOutLaws.{hands_out, told_all}
 use Rattle.written_claims.specs.Laid.{layout_of, trailer}
 use Rattle.written_claims.specs.NextBack.{told_ended, read_said}
-use Rattle.written_claims.specs.Objects.{look_holder}
+use Rattle.written_claims.proofs.Objects.{look_holder}
 use Rattle.written_claims.specs.Writable.{Sound}
 
 -- what the reader's events of containers mean; the file gives them, and they have no bytes

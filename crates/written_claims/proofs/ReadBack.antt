@@ -14,9 +14,9 @@ use Rattle.written.specs.File.{place_of, file_for}
 use Rattle.written.specs.Graph.{piece_of}
 use Rattle.written_claims.specs.Accepted.{Accepted, layout_for, sound}
 use Rattle.written_claims.specs.Back.{event_by}
-use Rattle.written_claims.specs.FileBack as back
+use Rattle.written_claims.proofs.FileBack as back
 use Rattle.written_claims.specs.Filled.{filled, handed_of, origin_of, said_from}
-use Rattle.written_claims.specs.FilledLaws.{handed_filled}
+use Rattle.written_claims.proofs.FilledLaws.{handed_filled}
 use Rattle.written_claims.specs.HandsOut.{HandOut}
 
 -- the answers on the file, call by call: `handed_of ms`, each event with its object's offset, then the end for ever

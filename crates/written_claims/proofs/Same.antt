@@ -12,8 +12,8 @@ use Rattle.written.specs.File.{file_of, file_for}
 use Rattle.written.specs.Graph.{piece_of}
 use Rattle.written_claims.specs.Accepted.{Accepted}
 use Rattle.written_claims.specs.Filled.{filled, handed_of}
-use Rattle.written_claims.specs.FilledLaws.{pieces_same}
-use Rattle.written_claims.specs.ReadBack.{means_back, handed_means}
+use Rattle.written_claims.proofs.FilledLaws.{pieces_same}
+use Rattle.written_claims.proofs.ReadBack.{means_back, handed_means}
 
 abbrev is_means : Told → Bool
 is_means (means m offset) = true

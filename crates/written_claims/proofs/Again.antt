@@ -18,7 +18,7 @@ use Rattle.writer.specs.CheckLaws.{fits_is}
 use Rattle.written_claims.specs.Accepted.{Accepted, sound}
 use Rattle.written_claims.specs.FileShown.{fine}
 use Rattle.written_claims.specs.Filled.{members, filled}
-use Rattle.written_claims.specs.FilledLaws.{kids_count, pieces_same}
+use Rattle.written_claims.proofs.FilledLaws.{kids_count, pieces_same}
 use Rattle.written_claims.specs.Sharing.{start_named}
 use Rattle.written_claims.specs.Writable.{Sound}
 

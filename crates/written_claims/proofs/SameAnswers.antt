@@ -20,7 +20,7 @@ use Rattle.grammar.specs.declared.turn.Due.{Due}
 use Rattle.written.specs.File.{file_for}
 use Rattle.written.specs.Graph.{piece_of}
 use Rattle.writer.specs.Write.{Said, long, refused, by_check, write_of}
-use Rattle.written_claims.specs.Same.{pieces_unmeasured, file_same}
+use Rattle.written_claims.proofs.Same.{pieces_unmeasured, file_same}
 
 -- the same but for given lengths, and both whole or both bad behind them
 abbrev pub Alike : Events → Events → Type 0
