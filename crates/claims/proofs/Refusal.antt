@@ -23,7 +23,8 @@ use Rattle.reader.specs.Request.{long, refusing, asked_under, asked_by, asked_of
 use Rattle.reader.specs.State.{max_length, ended_reader}
 use Rattle.reader.specs.declared.answer.Record.{Record}
 use Rattle.reader.specs.declared.state.Reader.{Reader}
-use Rattle.claims.specs.After.{unchanged, state_after}
+use Rattle.claims.specs.After.{unchanged}
+use Rattle.claims.proofs.AfterLaws.{state_after}
 
 -- a refusal with its number, values and place, of a reader's state r on a file with a scratch lent, and the state and the scratch afterwards: of a
 -- step, which is lent no scratch; or of a text request, which is given no state
