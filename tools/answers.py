@@ -45,7 +45,7 @@ class Function:
         # the chain of the records of Lts, and the places that have a view, as the check generates them
         self.before, self.views = {}, None
         if generated and os.path.exists(generated + "/Lts.antt"):
-            text = open(generated + "/Lts.antt", encoding="utf-8").read()
+            text = text_of_lts = open(generated + "/Lts.antt", encoding="utf-8").read()
             self.before = {norm(a): norm(b) for a, b in re.findall(r"pub record (\S+) : Type 0 where\n +pub before : (\S+)", text)}
             self.views = {}
         if generated and os.path.exists(generated + "/Lts/View.antt"):
@@ -64,6 +64,9 @@ class Function:
         self.loops = {norm(a[0]): (a, b, changed) for (a, b), changed in zip(of["loops"], of["changed"])}
         claims = ["tie.the-claims"] if any(it[3] for it in of["places"]) else []
         handed = ["tie.handed_clauses"] if len(self.own.get("ensures", [])) > 1 else []
+        if self.before:
+            claims = ["tie.the-claims"] if "module _ (the-claims : Claims)" in text_of_lts else []
+            handed = ["tie.handed_clauses"] if "pub record the-Clauses" in text_of_lts else []
         bounds = [f"goal.the-{kind}-{a[1]}" for a, _ in of["loops"] for kind in ("invariant", "decreases")]
         # what the records of Lts take
         self.given = " ".join(claims + ["reads.Pre", "reads.Post"] + bounds + handed)
@@ -147,6 +150,8 @@ class Turner:
         for first in (norm(labels[0]), re.sub("-(law|lem)$", "", norm(labels[0])).lower()):
             if first in START:
                 return [first.replace("-", "_"), *labels[1:]]
+            if first == "pre":
+                return ["requires", *labels[1:]]
             here = next((p for n in (0, 1) for p in chain if norm(self.fun.place[p]["step"][n]) == first), None)
             here = here or next((p for p in chain if norm(self.fun.place[p]["step"][0]).lower() == first), None)
             if not here:
@@ -258,7 +263,11 @@ class Turner:
 
 def bound_place(block):
     """Binds the place that a lemma's type names without a name."""
-    return re.sub(rf"(?m)^( *(?:abbrev )?(?:pub )?{W} :) tie\.((?!Need-){W}(?: invariant-{W}| decreases-{W})*) →", r"\1 (c : tie.\2) →", block)
+    def one(found):
+        head = re.search(rf"(?m)^ *{re.escape(found[2])} ([^\s=(]+)", block[found.end() :])
+        return f"{found[1]} ({head[1] if head else 'c'} : tie.{found[3]}) →"
+
+    return re.sub(rf"(?m)^( *(?:abbrev )?(?:pub )?({W}) :) tie\.((?!Need-){W}(?: invariant-{W}| decreases-{W})*) →", one, block)
 
 
 def split_top(text):
@@ -371,7 +380,7 @@ def written(crate, path, text, where, t):
                 t.block[f[1]] = block[:80]
     uses_lts = False
     locals_ = {}
-    for block in blocks[1:]:
+    for block in map(bound_place, blocks[1:]):
         lines = block.split("\n")
         notes = []
         while lines and lines[0].startswith("--"):
@@ -421,7 +430,7 @@ def written(crate, path, text, where, t):
                 continue
             unfolding = rest[: b.start()].strip()
             params = [p for p in b[1].split() if p != "κs"]
-            body = t.body(b[2], place, f"{where}:{it[1]}", params[-1] if params else "c")
+            body = t.body(b[2], place, f"{where}:{it[1]}", "c" if "c" in params else params[0] if params else "c")
             if new.startswith("returns"):
                 body = as_record(body, fun.own.get("ensures", []))
             answers.append("\n".join(notes + [f"pub {new} : goal.{new}"] + ([unfolding] if unfolding else []) + [f"{new} {' '.join(params)} ={named(body)}"]))
