@@ -7,7 +7,7 @@ use Rattle.number.specs.BeLaws.{bytes_of_law}
 use Rattle.grammar.specs.Check.{check_of}
 use Rattle.grammar.specs.Said.{whole, refused_at, checked_said}
 use Rattle.lookup.specs.Find.{found_said}
-use Rattle.lookup.specs.FindLaws.{find_refused, find_whole, check_rest}
+use Rattle.lookup.proofs.FindLaws.{find_refused, find_whole, check_rest}
 use Rattle.lookup.proofs.find.find.Goals as goal
 use Rattle.lookup.proofs.find.find.Lts as lts
 use Rattle.lookup.proofs.find.find.Reads as reads

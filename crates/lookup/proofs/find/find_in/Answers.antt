@@ -2,7 +2,7 @@
 use mathlib.Core.Path.{sym, ◌∙◌}
 use borrow.Author.Rules.{rules}
 use Rattle.lookup.specs.Find.{found_said}
-use Rattle.lookup.specs.FindLaws.{by_none, by_count, by_bad}
+use Rattle.lookup.proofs.FindLaws.{by_none, by_count, by_bad}
 use Rattle.lookup.proofs.find.find_in.Goals as goal
 
 pub returns-in_default : goal.returns-in_default

@@ -5,7 +5,7 @@ use native.Mathlib.Nat.{add-sub_cancel_left}
 use native.Mathlib.Omega.{arith}
 use lib.ListN.{length}
 use Rattle.lookup.specs.Find.{found_said, find_of, found, part_by, part_of}
-use Rattle.lookup.specs.FoundLaws.{found_value}
+use Rattle.lookup.proofs.FoundLaws.{found_value}
 use borrow.Author.Rules.{rules}
 use Rattle.lookup.proofs.find.find_part.Goals as goal
 use Rattle.lookup.proofs.find.find_part.Lts as lts
