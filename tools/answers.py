@@ -47,6 +47,7 @@ class Function:
         if generated and os.path.exists(generated + "/Lts.antt"):
             text = open(generated + "/Lts.antt", encoding="utf-8").read()
             self.before = {norm(a): norm(b) for a, b in re.findall(r"pub record (\S+) : Type 0 where\n +pub before : (\S+)", text)}
+            self.views = {}
         if generated and os.path.exists(generated + "/Lts/View.antt"):
             text = open(generated + "/Lts/View.antt", encoding="utf-8").read()
             # the place of Lts that each view stands on
@@ -75,6 +76,13 @@ class Function:
         tries = [name] + ([kind[2]] if kind else []) + ([f"part-{part[1]}-{part[2]}", f"slice-aggregate-{part[1]}"] if part else [])
         return next((self.need[it] for it in tries if it in self.need), None) or self.newer.get(name)
 
+    def canon(self, place):
+        """Returns the end of the arm that a place lies in, where the records of Lts go past the arm as a whole."""
+        for end, it in self.place.items():
+            if it["arm"] and "Past-" + end in self.before and place in self.chain(end)[: it["arm"][1]]:
+                return end
+        return place
+
     def chain(self, place):
         out = []
         while place:
@@ -93,6 +101,9 @@ def paragraphs(text):
             out[-1] += "\n\n" + it
         else:
             out.append(it)
+    # the file's comment may stand apart from its uses
+    while len(out) > 1 and "\nuse " not in "\n" + out[0]:
+        out[:2] = [out[0] + "\n" + out[1]]
     return out
 
 
@@ -136,6 +147,8 @@ class Turner:
         for first in (norm(labels[0]), re.sub("-(law|lem)$", "", norm(labels[0])).lower()):
             if first in START:
                 return [first.replace("-", "_"), *labels[1:]]
+            if first == "pre":
+                return ["requires", *labels[1:]]
             here = next((p for n in (0, 1) for p in chain if norm(self.fun.place[p]["step"][n]) == first), None)
             here = here or next((p for p in chain if norm(self.fun.place[p]["step"][0]).lower() == first), None)
             if not here:
@@ -174,9 +187,10 @@ class Turner:
     def hops(self, place, to):
         """Returns how many records of Lts lie between a place's own and another's above it."""
         if self.fun.before:
-            at, n = place, 0
+            past = "Past-" + place
+            at, n = past if past in self.fun.before else place, 0
             if self.fun.views:
-                at = self.fun.views.get(norm(self.fun.place[place]["name"]), place)
+                at = self.fun.views.get(norm(self.fun.place[place]["name"]), at)
             while at not in (to, "Past-" + to) and at in self.fun.before:
                 at = self.fun.before[at]
                 n += 1
@@ -238,7 +252,7 @@ class Turner:
         for name in list(bound):
             if name == var:
                 continue
-            uses = re.findall(rf"(?<![^\s(\[,{{.]){re.escape(name)}(?=[\s.)\],}}]|$)", lines)
+            uses = re.findall(rf"(?<![^\s(\[,{{]){re.escape(name)}(?=[\s.)\],}}]|$)", lines)
             if len(uses) == 1:
                 lines = re.sub(rf"\blet {re.escape(name)} = {W}(?:\.{W})* in[ \n]+", "", lines)
         return lines
@@ -246,7 +260,11 @@ class Turner:
 
 def bound_place(block):
     """Binds the place that a lemma's type names without a name."""
-    return re.sub(rf"(?m)^( *(?:abbrev )?(?:pub )?{W} :) tie\.((?!Need-){W}(?: invariant-{W}| decreases-{W})*) →", r"\1 (c : tie.\2) →", block)
+    def one(found):
+        head = re.search(rf"(?m)^ *{re.escape(found[2])} ([^\s=(]+)", block[found.end() :])
+        return f"{found[1]} ({head[1] if head else 'c'} : tie.{found[3]}) →"
+
+    return re.sub(rf"(?m)^( *(?:abbrev )?(?:pub )?({W}) :) tie\.((?!Need-){W}(?: invariant-{W}| decreases-{W})*) →", one, block)
 
 
 def split_top(text):
@@ -355,7 +373,7 @@ def written(crate, path, text, where, t):
         it = re.search(rf"\(({W}) : tie\.({W})", block)
         if it and norm(it[2]) in fun.place:
             for f in re.finditer(rf"(?m)^ *(?:abbrev )?(?:pub )?({W}) :", block):
-                t.takes[f[1]] = norm(it[2])
+                t.takes[f[1]] = fun.canon(norm(it[2]))
                 t.block[f[1]] = block[:80]
     uses_lts = False
     locals_ = {}
@@ -409,7 +427,7 @@ def written(crate, path, text, where, t):
                 continue
             unfolding = rest[: b.start()].strip()
             params = [p for p in b[1].split() if p != "κs"]
-            body = t.body(b[2], place, f"{where}:{it[1]}", params[-1] if params else "c")
+            body = t.body(b[2], place, f"{where}:{it[1]}", "c" if "c" in params else params[0] if params else "c")
             if new.startswith("returns"):
                 body = as_record(body, fun.own.get("ensures", []))
             answers.append("\n".join(notes + [f"pub {new} : goal.{new}"] + ([unfolding] if unfolding else []) + [f"{new} {' '.join(params)} ={named(body)}"]))
@@ -419,13 +437,14 @@ def written(crate, path, text, where, t):
         is_inner = any(lemma in t.inner for lemma in t.takes if t.block[lemma] == block[:80])
 
         def typed(f):
-            got = fun.place.get(norm(f[2]))
-            if got and not is_inner and norm(f[2]) in asked:
-                return f"({f[1]} : goal.{asked[norm(f[2])]}"
+            there = fun.canon(norm(f[2]))
+            got = fun.place.get(there)
+            if got and not is_inner and there in asked:
+                return f"({f[1]} : goal.{asked[there]}"
             if got:
                 nonlocal uses_lts
                 uses_lts = True
-                old = next(p[0] for p in fun.of["places"] if norm(p[0]) == norm(f[2]))
+                old = next(p[0] for p in fun.of["places"] if norm(p[0]) == there)
                 old = "Past-" + old if "Past-" + norm(old) in fun.before else old
                 return f"({f[1]} : lts.{old} {fun.given}"
             said(f"{where}: no place {f[2]}")
@@ -434,7 +453,7 @@ def written(crate, path, text, where, t):
         code = bound_place(code)
         f = re.search(rf"\(({W}) : tie\.({W})", code)
         if f and norm(f[2]) in fun.place:
-            code = t.body(code, norm(f[2]), f"{where}:{code.split(' ')[0]}", f[1], is_inner)
+            code = t.body(code, fun.canon(norm(f[2])), f"{where}:{code.split(' ')[0]}", f[1], is_inner)
         code = re.sub(rf"\(({W}) : tie\.({W})((?: invariant-{W}| decreases-{W})*)", typed, code)
         code = named(code)
         if re.search(r"tie\.(?!the-claims|handed_clauses)", code):
