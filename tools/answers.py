@@ -47,6 +47,7 @@ class Function:
         if generated and os.path.exists(generated + "/Lts.antt"):
             text = open(generated + "/Lts.antt", encoding="utf-8").read()
             self.before = {norm(a): norm(b) for a, b in re.findall(r"pub record (\S+) : Type 0 where\n +pub before : (\S+)", text)}
+            self.views = {}
         if generated and os.path.exists(generated + "/Lts/View.antt"):
             text = open(generated + "/Lts/View.antt", encoding="utf-8").read()
             # the place of Lts that each view stands on
@@ -74,6 +75,13 @@ class Function:
         part = re.match(r"slice-bounds-(.*)-(start|end|length)$", name)
         tries = [name] + ([kind[2]] if kind else []) + ([f"part-{part[1]}-{part[2]}", f"slice-aggregate-{part[1]}"] if part else [])
         return next((self.need[it] for it in tries if it in self.need), None) or self.newer.get(name)
+
+    def canon(self, place):
+        """Returns the end of the arm that a place lies in, where the records of Lts go past the arm as a whole."""
+        for end, it in self.place.items():
+            if it["arm"] and "Past-" + end in self.before and place in self.chain(end)[: it["arm"][1]]:
+                return end
+        return place
 
     def chain(self, place):
         out = []
@@ -177,9 +185,10 @@ class Turner:
     def hops(self, place, to):
         """Returns how many records of Lts lie between a place's own and another's above it."""
         if self.fun.before:
-            at, n = place, 0
+            past = "Past-" + place
+            at, n = past if past in self.fun.before else place, 0
             if self.fun.views:
-                at = self.fun.views.get(norm(self.fun.place[place]["name"]), place)
+                at = self.fun.views.get(norm(self.fun.place[place]["name"]), at)
             while at not in (to, "Past-" + to) and at in self.fun.before:
                 at = self.fun.before[at]
                 n += 1
@@ -241,7 +250,7 @@ class Turner:
         for name in list(bound):
             if name == var:
                 continue
-            uses = re.findall(rf"(?<![^\s(\[,{{.]){re.escape(name)}(?=[\s.)\],}}]|$)", lines)
+            uses = re.findall(rf"(?<![^\s(\[,{{]){re.escape(name)}(?=[\s.)\],}}]|$)", lines)
             if len(uses) == 1:
                 lines = re.sub(rf"\blet {re.escape(name)} = {W}(?:\.{W})* in[ \n]+", "", lines)
         return lines
@@ -358,7 +367,7 @@ def written(crate, path, text, where, t):
         it = re.search(rf"\(({W}) : tie\.({W})", block)
         if it and norm(it[2]) in fun.place:
             for f in re.finditer(rf"(?m)^ *(?:abbrev )?(?:pub )?({W}) :", block):
-                t.takes[f[1]] = norm(it[2])
+                t.takes[f[1]] = fun.canon(norm(it[2]))
                 t.block[f[1]] = block[:80]
     uses_lts = False
     locals_ = {}
@@ -422,13 +431,14 @@ def written(crate, path, text, where, t):
         is_inner = any(lemma in t.inner for lemma in t.takes if t.block[lemma] == block[:80])
 
         def typed(f):
-            got = fun.place.get(norm(f[2]))
-            if got and not is_inner and norm(f[2]) in asked:
-                return f"({f[1]} : goal.{asked[norm(f[2])]}"
+            there = fun.canon(norm(f[2]))
+            got = fun.place.get(there)
+            if got and not is_inner and there in asked:
+                return f"({f[1]} : goal.{asked[there]}"
             if got:
                 nonlocal uses_lts
                 uses_lts = True
-                old = next(p[0] for p in fun.of["places"] if norm(p[0]) == norm(f[2]))
+                old = next(p[0] for p in fun.of["places"] if norm(p[0]) == there)
                 old = "Past-" + old if "Past-" + norm(old) in fun.before else old
                 return f"({f[1]} : lts.{old} {fun.given}"
             said(f"{where}: no place {f[2]}")
@@ -437,7 +447,7 @@ def written(crate, path, text, where, t):
         code = bound_place(code)
         f = re.search(rf"\(({W}) : tie\.({W})", code)
         if f and norm(f[2]) in fun.place:
-            code = t.body(code, norm(f[2]), f"{where}:{code.split(' ')[0]}", f[1], is_inner)
+            code = t.body(code, fun.canon(norm(f[2])), f"{where}:{code.split(' ')[0]}", f[1], is_inner)
         code = re.sub(rf"\(({W}) : tie\.({W})((?: invariant-{W}| decreases-{W})*)", typed, code)
         code = named(code)
         if re.search(r"tie\.(?!the-claims|handed_clauses)", code):
