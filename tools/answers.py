@@ -75,6 +75,13 @@ class Function:
         tries = [name] + ([kind[2]] if kind else []) + ([f"part-{part[1]}-{part[2]}", f"slice-aggregate-{part[1]}"] if part else [])
         return next((self.need[it] for it in tries if it in self.need), None) or self.newer.get(name)
 
+    def canon(self, place):
+        """Returns the end of the arm that a place lies in, where the records of Lts go past the arm as a whole."""
+        for end, it in self.place.items():
+            if it["arm"] and "Past-" + end in self.before and place in self.chain(end)[: it["arm"][1]]:
+                return end
+        return place
+
     def chain(self, place):
         out = []
         while place:
@@ -149,16 +156,14 @@ class Turner:
             return None
         step = self.fun.place[here]["step"]
         labels = self.by_clause(labels, self.fun.place[here]["callee"])
-        if inner:
-            return [step[1], *labels[1:]]
-        if labels[1:2] == ["given"]:
+        if labels[1:2] == ["given"] and not inner:
             for p in chain:
                 for var, known in self.fun.place[p]["typed"]:
                     if norm(known) == norm(step[0]):
                         return ["type_inv", var, *labels[2:]]
         for p in chain:
             arm = self.fun.place[p]["arm"]
-            if not arm:
+            if not arm or inner and "Past-" + p not in self.fun.before:
                 continue
             name, _, fields = arm
             for label, of, inner in sorted(fields, key=lambda f: -len(f[2])):
@@ -169,9 +174,9 @@ class Turner:
         return [step[1], *labels[1:]]
 
     def has_view(self, place):
-        if self.views is not None:
-            return norm(self.place[place]["name"]) in self.views
-        return bool(self.place[place]["typed"]) or any(self.place[p]["arm"] for p in self.chain(place))
+        if self.fun.views is not None:
+            return norm(self.fun.place[place]["name"]) in self.fun.views
+        return bool(self.fun.place[place]["typed"]) or any(self.fun.place[p]["arm"] for p in self.fun.chain(place))
 
     def hops(self, place, to):
         """Returns how many records of Lts lie between a place's own and another's above it."""
@@ -179,10 +184,10 @@ class Turner:
             at, n = place, 0
             if self.fun.views:
                 at = self.fun.views.get(norm(self.fun.place[place]["name"]), place)
-            while at != to and at in self.fun.before:
+            while at not in (to, "Past-" + to) and at in self.fun.before:
                 at = self.fun.before[at]
                 n += 1
-            return n if at == to else None
+            return n if at in (to, "Past-" + to) else None
         chain = self.fun.chain(place)
         return chain.index(to) if to in chain else None
 
@@ -205,7 +210,7 @@ class Turner:
                 n = self.hops(place, self.takes[lemma])
                 if n is not None:
                     self.uses.append((lemma, n, inner))
-                    if lemma in self.inner and not inner and self.fun.has_view(place):
+                    if lemma in self.inner and not inner and self.has_view(place):
                         n += 1
                     return f"{lemma} {var}" + ".before" * n
                 self.said(f"{where}: {lemma} takes {self.takes[lemma]}, which is not above {place}")
@@ -240,7 +245,7 @@ class Turner:
         for name in list(bound):
             if name == var:
                 continue
-            uses = re.findall(rf"(?<![^\s(\[,{{.]){re.escape(name)}(?=[\s.)\],}}]|$)", lines)
+            uses = re.findall(rf"(?<![^\s(\[,{{]){re.escape(name)}(?=[\s.)\],}}]|$)", lines)
             if len(uses) == 1:
                 lines = re.sub(rf"\blet {re.escape(name)} = {W}(?:\.{W})* in[ \n]+", "", lines)
         return lines
@@ -265,23 +270,48 @@ def split_top(text):
 
 
 def as_record(body, names):
-    """Turns the tuple that a body ends in to a record of named clauses."""
+    """Turns what a body ends in, a tuple or a pair that a lemma gives, to a record of named clauses."""
     text = body.rstrip()
-    if len(names) < 2 or not text.endswith(")"):
+    if len(names) < 2:
         return body
-    depth, at = 0, len(text)
-    while at > 0:
-        at -= 1
-        depth += text[at] == ")"
-        depth -= text[at] == "("
-        if depth == 0:
-            break
-    parts = split_top(text[at + 1 : -1])
-    while 1 < len(parts) < len(names) and parts[-1].startswith("(") and parts[-1].endswith(")"):
-        parts = parts[:-1] + split_top(parts[-1][1:-1])
-    if len(parts) != len(names):
+    if text.endswith(")"):
+        depth, at = 0, len(text)
+        while at > 0:
+            at -= 1
+            depth += text[at] == ")"
+            depth -= text[at] == "("
+            if depth == 0:
+                break
+        parts = split_top(text[at + 1 : -1])
+        while 1 < len(parts) < len(names) and parts[-1].startswith("(") and parts[-1].endswith(")"):
+            parts = parts[:-1] + split_top(parts[-1][1:-1])
+        if len(parts) == len(names):
+            return text[:at] + "(record { " + "; ".join(f"{n} = {v}" for n, v in zip(names, parts)) + " })"
+        inside = text[at + 1 : -1]
+        if re.match(r"[\s\n]*rw ", last_of(text)[1]) and re.match(W + " ", inside) and not inside.startswith(("rw ", "omega", "simp", "search", "cc")):
+            return text[:at] + "(" + pair(inside, names) + ")"
+    front, last = last_of(text)
+    if re.match(rf"(rw|omega|simp|search|cc|grind|absurd|elim|record|\()", last) or re.fullmatch(r"c(\.\S+)+", last):
         return body
-    return text[:at] + "(record { " + "; ".join(f"{n} = {v}" for n, v in zip(names, parts)) + " })"
+    return f"{front}{pair(last, names)}"
+
+
+def last_of(text):
+    """Splits a body at what stands behind its last `in`."""
+    depth, at = 0, 0
+    for it in re.finditer(r"[()\[\]{}]|(?<![^\s)\]}])in(?=\s)", text):
+        depth += it[0] in "([{"
+        depth -= it[0] in ")]}"
+        if it[0] == "in" and depth == 0:
+            at = it.end()
+    gap = re.match(r"\s*", text[at:])[0]
+    return text[: at + len(gap)], text[at + len(gap) :]
+
+
+def pair(term, names):
+    """A record of the parts of a pair, or of a pair in a pair."""
+    paths = [".1" * n + ".0" for n in range(len(names) - 1)] + [".1" * (len(names) - 1)]
+    return f"let both = {term} in record {{ " + "; ".join(f"{n} = both{p}" for n, p in zip(names, paths)) + " }"
 
 
 def turn(crate, path, fun, said):
@@ -332,7 +362,7 @@ def written(crate, path, text, where, t):
         it = re.search(rf"\(({W}) : tie\.({W})", block)
         if it and norm(it[2]) in fun.place:
             for f in re.finditer(rf"(?m)^ *(?:abbrev )?(?:pub )?({W}) :", block):
-                t.takes[f[1]] = norm(it[2])
+                t.takes[f[1]] = fun.canon(norm(it[2]))
                 t.block[f[1]] = block[:80]
     uses_lts = False
     locals_ = {}
@@ -373,7 +403,7 @@ def written(crate, path, text, where, t):
         if it:
             got = fun.goal(it[2])
             rest = code[it.end() :]
-            b = re.search(rf"(?m)^{re.escape(it[1])}((?: {W})*) =(.*)\Z", rest, re.S)
+            b = re.search(rf"(?m)^{re.escape(it[1])}((?: [^\s=(){{}}]+)*) =(.*)\Z", rest, re.S)
             if not got:
                 if b and b[2].strip() not in ("search rules",):
                     said(f"{where}: no goal {it[2]}: dropped: {' '.join(rest.split())[:300]}")
@@ -396,13 +426,15 @@ def written(crate, path, text, where, t):
         is_inner = any(lemma in t.inner for lemma in t.takes if t.block[lemma] == block[:80])
 
         def typed(f):
-            got = fun.place.get(norm(f[2]))
-            if got and not is_inner and norm(f[2]) in asked:
-                return f"({f[1]} : goal.{asked[norm(f[2])]}"
+            there = fun.canon(norm(f[2]))
+            got = fun.place.get(there)
+            if got and not is_inner and there in asked:
+                return f"({f[1]} : goal.{asked[there]}"
             if got:
                 nonlocal uses_lts
                 uses_lts = True
-                old = next(p[0] for p in fun.of["places"] if norm(p[0]) == norm(f[2]))
+                old = next(p[0] for p in fun.of["places"] if norm(p[0]) == there)
+                old = "Past-" + old if "Past-" + norm(old) in fun.before else old
                 return f"({f[1]} : lts.{old} {fun.given}"
             said(f"{where}: no place {f[2]}")
             return f[0]
@@ -410,7 +442,7 @@ def written(crate, path, text, where, t):
         code = bound_place(code)
         f = re.search(rf"\(({W}) : tie\.({W})", code)
         if f and norm(f[2]) in fun.place:
-            code = t.body(code, norm(f[2]), f"{where}:{code.split(' ')[0]}", f[1], is_inner)
+            code = t.body(code, fun.canon(norm(f[2])), f"{where}:{code.split(' ')[0]}", f[1], is_inner)
         code = re.sub(rf"\(({W}) : tie\.({W})((?: invariant-{W}| decreases-{W})*)", typed, code)
         code = named(code)
         if re.search(r"tie\.(?!the-claims|handed_clauses)", code):

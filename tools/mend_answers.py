@@ -10,7 +10,7 @@ import sys
 def main():
     crate, said = sys.argv[1:]
     text = re.sub(r"\n  +(?=the fields|\S+ can be named)", " ", open(said, encoding="utf-8").read())
-    changes = {}
+    changes, named = {}, {}
     for it in re.finditer(r"(?m)^(?:so far: )?(\./proofs/\S+\.antt):(\d+):(\d+): error: (.*)$", text):
         path, line, column, what = it[1], int(it[2]), int(it[3]), it[4]
         new = None
@@ -30,6 +30,9 @@ def main():
             new = nearest[1]
         elif len(names) == 1:
             new = names[0]
+        if old.isdigit() and names and re.search(r"record `\S*(Last|Kept)-", what):
+            named[(line, column)] = names
+            new = names[0]
         if new:
             changes.setdefault(path, []).append((line, column, old, new))
     done = 0
@@ -43,7 +46,21 @@ def main():
                 found = lines[at].find("." + old)
             if found < 0:
                 continue
-            lines[at] = lines[at][: found + 1] + new + lines[at][found + 1 + len(old) :]
+            behind = lines[at][found + 1 + len(old) :]
+            if old.isdigit() and all:
+                # a nested pair, as .new.1.0, where the record now names each part
+                path = re.match(r"(?:\.\d)*", "." + old + behind)[0].split(".")[1:]
+                names = named.get((line, column), [])
+                count = 0
+                while count < len(names) - 1 and path[count : count + 1] == ["1"]:
+                    count += 1
+                used = count + (path[count : count + 1] == ["0"])
+                if len(names) == 1:
+                    count, used = 0, len(path)
+                if names:
+                    new = names[min(count, len(names) - 1)]
+                    behind = "".join("." + it for it in path[max(used, 1) :]) + behind[len("".join("." + it for it in path[1:])) :]
+            lines[at] = lines[at][: found + 1] + new + behind
             done += 1
         open(file, "w", encoding="utf-8").write("\n".join(lines))
     print(done)

@@ -1,4 +1,6 @@
 // Numbers in decimal, and days and times, put into lent memory from a place on: whole, where they fit, else nothing changes.
+#![tactic(auto)]
+
 pub mod decimal;
 pub mod stamp;
 

@@ -10,11 +10,11 @@ use Rattle.event.specs.Numbers.{refusal_numbers, Listed}
 use Rattle.event.specs.NumbersLaws.{listed_some, listed_low}
 use Rattle.number.specs.Among.{among, all_of, among_all}
 use Rattle.number.specs.BeLaws.{Bytes}
-use Rattle.object.specs.Refusal.{object_refusals, number_of as objectNumber, values_of as objectValues}
+use Rattle.object.specs.Refusal.{object_refusals, number_of as object_number, values_of as object_values}
 use Rattle.object.specs.declared.refusal.Refusal as object
 use Rattle.object.specs.declared.refusal.Refusal.TheVariants as objects
 use Rattle.layout.specs.Refusals.{look_refusals, file_refusals}
-use Rattle.layout.specs.Said.{number_of as file_number, values_of as fileValues}
+use Rattle.layout.specs.Said.{number_of as file_number, values_of as file_values}
 use Rattle.layout.specs.declared.refusal.Refusal as layout
 use Rattle.layout.specs.declared.refusal.Refusal.TheVariants as files
 use Rattle.reader.specs.Refusals.{step_refusals}
@@ -53,8 +53,8 @@ end_again (refused number values place) t =
     rw (ne_eqb number 0 (listed_some number t.0), lt-leb 240 number (listed_low number t.0), ← t.1)
 
 -- every refusal of an object, of a file and of the reader
-of_object : (r : object.Refusal) (place : ℕ) → Told (refused (objectNumber r) (objectValues r) place)
-unfolding objectNumber objectValues values_from refusal_numbers among
+of_object : (r : object.Refusal) (place : ℕ) → Told (refused (object_number r) (object_values r) place)
+unfolding object_number object_values values_from refusal_numbers among
 of_object objects.ObjectOffsetTooLarge place = (refl, refl)
 of_object objects.NullObjectUnimplemented place = (refl, refl)
 of_object objects.FillObjectUnimplemented place = (refl, refl)
@@ -65,8 +65,8 @@ of_object objects.InvalidUtf16String place = (refl, refl)
 of_object objects.InvalidObjectLength place = (refl, refl)
 of_object objects.OverflowOrNanDate place = (refl, refl)
 
-of_file : (r : layout.Refusal) (place : ℕ) → Told (refused (file_number r) (fileValues r) place)
-unfolding file_number fileValues values_from refusal_numbers among
+of_file : (r : layout.Refusal) (place : ℕ) → Told (refused (file_number r) (file_values r) place)
+unfolding file_number file_values values_from refusal_numbers among
 of_file files.TooLong place = (refl, refl)
 of_file files.EndOfInput place = (refl, refl)
 of_file files.InvalidMagic place = (refl, refl)

@@ -6,7 +6,7 @@ use Rattle.std.proofs.Math.Path.{refl}
 use Rattle.std.proofs.Common.{sym, ap, ◌∙◌, zero-add, add-zero, arith, lt-ltb, le-ltb, le-leb, ltb-true, ltb-false}
 use Rattle.event.specs.Format.{max_length}
 use Rattle.event.specs.Meaning.{Meaning}
-use Rattle.tape.specs.Events.{Events, whole as wholeTape, broken, before, events_from, events_of}
+use Rattle.tape.specs.Events.{Events, whole as whole_tape, broken, before, events_from, events_of}
 use Rattle.tape.specs.Item.{Reading, event, bad, read_at}
 use Rattle.grammar.specs.Check.{Move, onto, barred, move_of, finish_of, check_from, check_of}
 use Rattle.grammar.specs.Fits.{fits_from}
@@ -64,7 +64,7 @@ module _ (tape : List ℕ) (at : ℕ) (due : Due) (around : List Due) (d : Due) 
 -- the events from a place on, counted from n
 record Left (k : ℕ) (tape : List ℕ) (n at : ℕ) (due : Due) (around : List Due) (m : ℕ) : Type 0 where
   ms : List Meaning
-  events : events_from k tape at ≡ wholeTape ms
+  events : events_from k tape at ≡ whole_tape ms
   count : n + length ms ≡ m
   fits : fits_from due around ms ≡ true
 
@@ -94,7 +94,7 @@ left (suc k) tape n at due around m e = go (ltb at (length tape)) refl (λ d ds.
 -- what a whole tape is: its events, as many as were counted
 pub record Whole (tape : List ℕ) (m : ℕ) : Type 0 where
   pub ms : List Meaning
-  pub events : events_of tape ≡ wholeTape ms
+  pub events : events_of tape ≡ whole_tape ms
   pub count : length ms ≡ m
   pub fits : fits_from Root [] ms ≡ true
   pub short : length tape ≤ max_length
@@ -110,9 +110,9 @@ check_whole tape m e = go (ltb max_length (length tape)) refl
         record { ms = i.ms; events = i.events; count = omega (arith, i.count); fits = i.fits; short = ltb-false max_length (length tape) f }
 
 -- the events that follow one
-tail_whole : (m : Meaning) (es : Events) (ms : List Meaning) → before m es ≡ wholeTape ms → (ns : List Meaning) × (es ≡ wholeTape ns) × (ms ≡ m ∷ ns)
+tail_whole : (m : Meaning) (es : Events) (ms : List Meaning) → before m es ≡ whole_tape ms → (ns : List Meaning) × (es ≡ whole_tape ns) × (ms ≡ m ∷ ns)
 unfolding before
-tail_whole m (wholeTape ns) ms e = let f : m ∷ ns ≡ ms = cc in (ns, refl, sym f)
+tail_whole m (whole_tape ns) ms e = let f : m ∷ ns ≡ ms = cc in (ns, refl, sym f)
 tail_whole m (broken ns place) ms e = let z : ◌≡◌ {A = ℕ} 0 1 = cc in absurd (omega arith)
 
 -- an event that fits moves the machine on, and so do those behind it
@@ -125,9 +125,9 @@ fits_move due around m ms e = go (move_of (turn_of due m) due around) refl
     go (onto d ds) f = (d, ds, f, rw (f, fits_from) at e)
 
 abbrev Onward : ℕ → List ℕ → ℕ → Type 0
-Onward k tape n = (at : ℕ) (due : Due) (around : List Due) (ms : List Meaning) → events_from k tape at ≡ wholeTape ms → fits_from due around ms ≡ true → check_from k tape n at due around ≡ whole (n + length ms)
+Onward k tape n = (at : ℕ) (due : Due) (around : List Due) (ms : List Meaning) → events_from k tape at ≡ whole_tape ms → fits_from due around ms ≡ true → check_from k tape n at due around ≡ whole (n + length ms)
 
-finished : (k : ℕ) (tape : List ℕ) (n at : ℕ) (due : Due) (around : List Due) (ms : List Meaning) → events_from k tape at ≡ wholeTape ms → fits_from due around ms ≡ true → check_from k tape n at due around ≡ whole (n + length ms)
+finished : (k : ℕ) (tape : List ℕ) (n at : ℕ) (due : Due) (around : List Due) (ms : List Meaning) → events_from k tape at ≡ whole_tape ms → fits_from due around ms ≡ true → check_from k tape n at due around ≡ whole (n + length ms)
 unfolding check_from events_from fits_from finish_of
 finished zero tape n at due around ms e f =
     let z : ms ≡ [] = cc in
@@ -145,7 +145,7 @@ finished (suc k) tape n at due around ms e f = go (ltb at (length tape)) refl (�
 
     read : (r : Reading) → read_at tape at ≡ r → at < length tape → Onward k tape (n + 1) → check_from (suc k) tape n at due around ≡ whole (n + length ms)
     read bad g h later =
-        let y : broken [] at ≡ wholeTape ms = rw (lt-leb (length tape) at h, g, events_from) at e in
+        let y : broken [] at ≡ whole_tape ms = rw (lt-leb (length tape) at h, g, events_from) at e in
         let z : ◌≡◌ {A = ℕ} 0 1 = cc in
         absurd (omega arith)
     read (event m next) g h later =
@@ -156,12 +156,12 @@ finished (suc k) tape n at due around ms e f = go (ltb at (length tape)) refl (�
     go : (b : Bool) → ltb at (length tape) ≡ b → Onward k tape (n + 1) → check_from (suc k) tape n at due around ≡ whole (n + length ms)
     go true g later = read (read_at tape at) refl (ltb-true at (length tape) g) later
     go false g later =
-        let y : wholeTape [] ≡ wholeTape ms = rw (le-leb (length tape) at (ltb-false at (length tape) g)) at e in
+        let y : whole_tape [] ≡ whole_tape ms = rw (le-leb (length tape) at (ltb-false at (length tape) g)) at e in
         let z : ms ≡ [] = cc in
         let i : is_nothing due ≡ true = rw (z, fits_from) at f in
         rw (g, i, z, add-zero)
 
 -- the other way
-pub fits_check : (tape : List ℕ) (ms : List Meaning) → length tape ≤ max_length → events_of tape ≡ wholeTape ms → fits_from Root [] ms ≡ true → check_of tape ≡ whole (length ms)
+pub fits_check : (tape : List ℕ) (ms : List Meaning) → length tape ≤ max_length → events_of tape ≡ whole_tape ms → fits_from Root [] ms ≡ true → check_of tape ≡ whole (length ms)
 unfolding check_of events_of
 fits_check tape ms short e f = rw (le-ltb max_length (length tape) short) (finished (length tape) tape 0 0 Root [] ms e f ∙ rw zero-add)

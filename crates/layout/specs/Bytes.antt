@@ -6,7 +6,6 @@ use Rattle.event.specs.declared.Event.{Event}
 use Rattle.event.specs.declared.Event.TheVariants.{StartArray, StartDictionary, EndCollection, Boolean, Data, Date, Integer, Real, Nan, String, Uid}
 use Rattle.event.specs.declared.Length.TheVariants.{Given}
 use Rattle.object.specs.Object.{Found, object_at, outside, refused, scalar, bytes, utf8, utf16, array, dictionary}
-use Rattle.layout.specs.Looked as Looked
 use Rattle.layout.specs.Looked.{Looked, barred, missing, faulty, container}
 
 -- where the bytes of a record stand: in the file; in the file as UTF-16; nowhere, since it has none; or the file doesn't give it, which is

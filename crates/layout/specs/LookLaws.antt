@@ -1,6 +1,6 @@
 -- What is known of an object that is looked up, in any file under any layout: the file gives it; and that no object is missing where the offset
 -- table ends at or before T.
-use Rattle.std.specs.Prelude.{Bool, cond, List, ◌⊎◌, eqb, length}
+use Rattle.std.specs.Prelude.{Bool, List, ◌⊎◌, length}
 use Rattle.std.proofs.Math.Bool.{true, false}
 use Rattle.std.proofs.Common.{inl, inr, mul-le-mul_right, arith}
 use Rattle.std.proofs.Math.Path.{◌≡◌, refl}
@@ -11,7 +11,6 @@ use Rattle.std.proofs.Math.Dec.{ltb}
 use Rattle.number.specs.Among.{among}
 use Rattle.number.specs.Be.{be}
 use Rattle.number.specs.Width.{bytes_in}
-use Rattle.number.specs.declared.width.Width.{Width}
 use Rattle.number.specs.declared.width.Width.TheVariants.{One}
 use Rattle.utf.specs.Unicode.{is_utf8, is_utf16}
 use Rattle.event.specs.Bare.{Bare}

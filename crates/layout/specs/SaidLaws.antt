@@ -1,5 +1,5 @@
 -- Two answers that say the same are the same.
-use Rattle.std.specs.Prelude.{true, cond, List, [], ◌∷◌, ◌≡◌, refl, ℕ, eqb}
+use Rattle.std.specs.Prelude.{true, cond, List, ◌≡◌, refl, ℕ, eqb}
 use Rattle.std.proofs.Common.{sym, ap, ◌∙◌, ne_eqb}
 use Rattle.number.specs.Among.{among, among_not}
 use Rattle.object.specs.Refusal.{object_refusals, number_of as objectNumber}

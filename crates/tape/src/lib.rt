@@ -1,4 +1,6 @@
 // The event tape: events as bytes, appended at the end and stepped over from the front.
+#![tactic(auto)]
+
 pub mod append;
 pub mod end;
 pub mod item;

@@ -1,6 +1,6 @@
 // The event at a place of the tape.
 ghost use Rattle.std.specs.Prelude.{◌≡◌, ◌+◌, ◌^◌, ◌<◌};
-ghost use Rattle.tape.specs.Item.{plain, bytes_at, numbered as numberedBy, negative as negativeIn, date_in, data_in, text_in};
+ghost use Rattle.tape.specs.Item.{plain, bytes_at, numbered as numbered_by, negative as negative_in, date_in, data_in, text_in};
 ghost use Rattle.tape.specs.Kinds.{event_of};
 ghost use Rattle.tape.specs.Said.{step_said, step_at};
 
@@ -73,7 +73,7 @@ fn no_bytes(event: Event, next: usize) -> Step
 
 // The event of a kind that has a number.
 fn numbered(kind: u8, number: Value) -> Step
-    ensures { result ≡ numberedBy (event_of kind) number }
+    ensures { result ≡ numbered_by (event_of kind) number }
 {
     let Value::Of(n, next) = number else {
         return Step::Bad;
@@ -108,7 +108,7 @@ fn dated(number: Value) -> Step
 
 // A negative integer n stands as -1 - n.
 fn negative(number: Value) -> Step
-    ensures { result ≡ negativeIn number }
+    ensures { result ≡ negative_in number }
 {
     let Value::Of(k, next) = number else {
         return Step::Bad;

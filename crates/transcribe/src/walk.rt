@@ -6,7 +6,7 @@ ghost use Rattle.reader.specs.Machine.{arrive};
 ghost use Rattle.reader.specs.Next.{laid_out};
 ghost use Rattle.reader.specs.Said.{number_of, values_of};
 ghost use Rattle.reader.specs.State.{max_length};
-ghost use Rattle.transcribe.specs.Run.{run, refused as refusedEnd, end_of, finished_of, onward};
+ghost use Rattle.transcribe.specs.Run.{run, refused as refused_end, end_of, finished_of, onward};
 ghost use Rattle.transcribe.specs.Said.{fail_said, end_said};
 ghost use Rattle.transcribe.specs.Walk.{Below, higher_of, due_now};
 
@@ -197,7 +197,7 @@ fn finished(left: u64, held: usize) -> Transcript
 
 // A refusal ends it.
 pub(crate) fn refused(refusal: Refusal, place: u64, held: usize) -> Transcript
-    ensures ending_value { end_said result.ending ≡ refusedEnd (number_of refusal) (values_of refusal) place }
+    ensures ending_value { end_said result.ending ≡ refused_end (number_of refusal) (values_of refusal) place }
     ensures held_value { result.held ≡ held }
 {
     Transcript {

@@ -1,7 +1,7 @@
 -- What is known where a scalar is to be written.
 use Rattle.std.proofs.Common.{◌≡◌, ℕ, suc, ◌+◌, ◌*◌, ◌^◌, ◌<◌, ◌≤◌, List, [], ◌∷◌, length, get_or, set, sym, ap, ◌∙◌, arith}
 use Rattle.tape.specs.Events.{start_at}
-use Rattle.encode.specs.Put.{bytes_at as bytesOn}
+use Rattle.encode.specs.Put.{bytes_at as bytes_on}
 use Rattle.encode.specs.ScalarLaws.{scalar_there}
 use Rattle.written.specs.Encoding.{scalar_bytes}
 use Rattle.written.specs.EncodingLaws.{scalar_pos}
@@ -22,7 +22,7 @@ module _ {t w out : List ℕ} {n r pos : ℕ} {s : Scalar} (o : First t w out n 
   first_in = drop_piece o.ready r (scalar s) o.behind o.stands
 
   -- what stands on the tape there is the scalar
-  pub first_bytes_law : {off units : ℕ} → off ≡ get_or w r 0 → units ≡ get_or w (n * 3 + r) 0 → bytesOn t off units ≡ bytes_at (pieces_in t) (val s)
+  pub first_bytes_law : {off units : ℕ} → off ≡ get_or w r 0 → units ≡ get_or w (n * 3 + r) 0 → bytes_on t off units ≡ bytes_at (pieces_in t) (val s)
   first_bytes_law f g =
       let (m, a) = scalar_at o.ready r s o.behind o.stands in
       let p = f ∙ o.indexed.off r first_in in
