@@ -47,6 +47,7 @@ class Function:
         if generated and os.path.exists(generated + "/Lts.antt"):
             text = open(generated + "/Lts.antt", encoding="utf-8").read()
             self.before = {norm(a): norm(b) for a, b in re.findall(r"pub record (\S+) : Type 0 where\n +pub before : (\S+)", text)}
+            self.views = {}
         if generated and os.path.exists(generated + "/Lts/View.antt"):
             text = open(generated + "/Lts/View.antt", encoding="utf-8").read()
             # the place of Lts that each view stands on
@@ -100,6 +101,9 @@ def paragraphs(text):
             out[-1] += "\n\n" + it
         else:
             out.append(it)
+    # the file's comment may stand apart from its uses
+    while len(out) > 1 and "\nuse " not in "\n" + out[0]:
+        out[:2] = [out[0] + "\n" + out[1]]
     return out
 
 
@@ -181,9 +185,10 @@ class Turner:
     def hops(self, place, to):
         """Returns how many records of Lts lie between a place's own and another's above it."""
         if self.fun.before:
-            at, n = place, 0
+            past = "Past-" + place
+            at, n = past if past in self.fun.before else place, 0
             if self.fun.views:
-                at = self.fun.views.get(norm(self.fun.place[place]["name"]), place)
+                at = self.fun.views.get(norm(self.fun.place[place]["name"]), at)
             while at not in (to, "Past-" + to) and at in self.fun.before:
                 at = self.fun.before[at]
                 n += 1

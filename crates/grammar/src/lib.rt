@@ -1,4 +1,6 @@
 // Which events make one whole root, and which don't.
+#![tactic(auto)]
+
 pub mod answer;
 pub mod check;
 pub mod turn;

@@ -1,30 +1,27 @@
 // Bytes in lower-case hex.
-ghost use Rattle.std.specs.Prelude.{◌≤◌, ◌<◌};
-ghost use Rattle.io.specs.Counts.{IsPrefixLen};
+ghost use Rattle.std.specs.Prelude.{◌≡◌, ◌≤◌, ◌<◌, length, take};
 
 // The bytes of hex digits at the start of the lent memory, as many as fit, and how many.
 pub fn decode(s: &[u8], out: &mut [u8]) -> usize
-    ensures { IsPrefixLen result out.new }
+    ensures within { result ≤ length out.new }
+    ensures whole { result ≡ length (take result out.new) }
 {
     let count = least(s.len() / 2, out.len());
-    let mut n: usize = 0;
-    while n < count {
+    for n in 0..count {
         out[n] = value(s[n * 2]) * 16 + value(s[n * 2 + 1]);
-        n += 1;
     }
     count
 }
 
 // The digits of bytes at the start of the lent memory, of as many as fit, and how many.
 pub fn encode(s: &[u8], out: &mut [u8]) -> usize
-    ensures { IsPrefixLen result out.new }
+    ensures within { result ≤ length out.new }
+    ensures whole { result ≡ length (take result out.new) }
 {
     let count = least(s.len(), out.len() / 2);
-    let mut n: usize = 0;
-    while n < count {
+    for n in 0..count {
         out[n * 2] = digit(s[n] / 16);
         out[n * 2 + 1] = digit(s[n]);
-        n += 1;
     }
     count * 2
 }

@@ -6,12 +6,10 @@ pub fn next(s: &[u8], from: usize, b: u8) -> usize
     ensures upper_bound { result ≤ length s.now }
     ensures lower_bound { from ≤ length s.now → from ≤ result }
 {
-    let mut i = from;
-    while i < s.len() {
+    for i in from..s.len() {
         if s[i] == b {
             return i;
         }
-        i += 1;
     }
     s.len()
 }
@@ -26,8 +24,7 @@ pub fn after(s: &[u8], at: usize) -> usize
 // The decimal number that stands at a place; 0 where none does. It stays at the top rather than pass it.
 pub fn number(s: &[u8], from: usize) -> u64 {
     let mut n: u64 = 0;
-    let mut i = from;
-    while i < s.len() {
+    for i in from..s.len() {
         let digit = s[i];
         if digit < b'0' {
             return n;
@@ -36,7 +33,6 @@ pub fn number(s: &[u8], from: usize) -> u64 {
             return n;
         }
         n = with_digit(n, (digit - b'0') as u64);
-        i += 1;
     }
     n
 }

@@ -1,17 +1,19 @@
 // Lists the events of the property list on standard input.
-use libc::{STDIN_FILENO, STDOUT_FILENO};
-use say::list::list_input;
+#![tactic(auto)]
 
-fn main() {
+use say::list::list_input;
+use std::io;
+
+fn main(rt: HostRuntime) -> io::Result<()> {
     let mut input = [0u8; 65536];
     let mut scratch = [0u8; 65536];
     let mut line = [0u8; 131200];
     list_input(
-        STDIN_FILENO,
-        STDOUT_FILENO,
+        &mut rt.stdin(),
+        &mut rt.stdout(),
         &mut input,
         &mut scratch,
         &mut line,
         false,
-    );
+    )
 }

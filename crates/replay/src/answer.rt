@@ -1,111 +1,111 @@
-// The answers to the lines of standard input: a block for a file, what by_tape.rt says of one that is read plainly, and what forged.rt says of
-// a forged state or record.
+// The answers to the lines of a reader: a block for a file, what by_tape.rt says of one that is read plainly, and what forged.rt says of a forged
+// state or record.
 use crate::by_tape::say_plainly;
 use crate::forged::forged;
 use hexlines::hex::decode;
 use hexlines::line::next;
 use hexlines::stream::{fill, keep};
-use libc::STDOUT_FILENO;
 use line::put::Fixed;
 use reader::answer::Answer;
 use reader::state::Reader;
 use say::{say_answer, say_event, say_fixed};
+use std::io;
+use std::io::{Read, Write};
 
-// More reads than there will be: the loop over standard input needs an end.
+// More reads than there will be: the loop over the input needs an end.
 const READS: u64 = 0x4000_0000_0000_0000;
 
 // After so many events a block ends `stopped`.
 const EVENTS: u64 = 2000;
 
-pub fn all(buffer: &mut [u8]) {
+pub fn all<R: Read, W: Write>(from: &mut R, to: &mut W, buffer: &mut [u8]) -> io::Result<()> {
     let mut held: usize = 0;
-    let mut reads: u64 = 0;
-    while reads < READS {
-        let end = fill(buffer, held);
+    for _ in 0..READS {
+        let end = fill(from, buffer, held)?;
         if end <= held {
-            last(&buffer[..end]);
-            return;
+            return last(to, &buffer[..end]);
         }
-        let used = whole_lines(&buffer[..end]);
+        let used = whole_lines(to, &buffer[..end])?;
         held = keep(buffer, used, end);
-        reads += 1;
     }
+    Ok(())
 }
 
 // What is left when the input has ended: a line without its newline, if anything.
-fn last(s: &[u8]) {
+fn last<W: Write>(to: &mut W, s: &[u8]) -> io::Result<()> {
     if 0 < s.len() {
-        one(s);
+        one(to, s)?;
     }
+    Ok(())
 }
 
 // Every line that ends here, and where the next begins.
-fn whole_lines(s: &[u8]) -> usize {
+fn whole_lines<W: Write>(to: &mut W, s: &[u8]) -> io::Result<usize> {
     let mut at: usize = 0;
     while at < s.len() {
         let end = next(s, at, b'\n');
         if end == s.len() {
-            return at;
+            return Ok(at);
         }
-        one(&s[at..end]);
+        one(to, &s[at..end])?;
         at = end + 1;
     }
-    at
+    Ok(at)
 }
 
-// A file in hex; or behind a P, to be read plainly; or a forged line, which begins with another capital. UTF-16 text of a file of 65,536 bytes has at most 98,304 bytes
-// in UTF-8, and its line twice as many and some.
-fn one(digits: &[u8]) {
+// A file in hex; or behind a P, to be read plainly; or a forged line, which begins with another capital. UTF-16 text of a file of 65,536 bytes has at
+// most 98,304 bytes in UTF-8, and its line twice as many and some.
+fn one<W: Write>(to: &mut W, digits: &[u8]) -> io::Result<()> {
     let mut file = [0u8; 65536];
     let mut scratch = [0u8; 98304];
     let mut out = [0u8; 196864];
     if 131072 < digits.len() {
-        io::write_all(STDOUT_FILENO, b"long\n");
-        return;
+        return to.write_all(b"long\n");
     }
     if is_plain(digits) {
-        say_plainly(digits, &mut file, &mut scratch, &mut out);
-        return;
+        return say_plainly(to, digits, &mut file, &mut scratch, &mut out);
     }
     if is_capital(digits) {
-        forged(digits, &mut file, &mut scratch, &mut out);
-        return;
+        return forged(to, digits, &mut file, &mut scratch, &mut out);
     }
     let n = decode(digits, &mut file);
-    block(&file[..n], &mut scratch, &mut out);
+    block(to, &file[..n], &mut scratch, &mut out)
 }
 
-fn block(file: &[u8], scratch: &mut [u8], out: &mut [u8]) {
-    say_fixed(STDOUT_FILENO, out, Fixed::Events);
+fn block<W: Write>(to: &mut W, file: &[u8], scratch: &mut [u8], out: &mut [u8]) -> io::Result<()> {
+    say_fixed(to, out, Fixed::Events)?;
     let mut reader = Reader::FRESH;
-    let mut left: u64 = EVENTS;
-    while 0 < left {
+    for _ in 0..EVENTS {
         let stepped = reader.next(file);
         let after = stepped.reader;
         reader = after;
         let answer = stepped.answer;
         let Answer::Handed(handed) = answer else {
-            say_answer(STDOUT_FILENO, file, scratch, out, answer);
-            then(file, scratch, out, reader);
-            return;
+            say_answer(to, file, scratch, out, answer)?;
+            return then(to, file, scratch, out, reader);
         };
-        say_event(STDOUT_FILENO, file, scratch, out, handed);
-        left -= 1;
+        say_event(to, file, scratch, out, handed)?;
     }
-    say_fixed(STDOUT_FILENO, out, Fixed::Stopped);
+    say_fixed(to, out, Fixed::Stopped)
 }
 
 // Two calls more.
-fn then(file: &[u8], scratch: &mut [u8], out: &mut [u8], reader: Reader) {
+fn then<W: Write>(
+    to: &mut W,
+    file: &[u8],
+    scratch: &mut [u8],
+    out: &mut [u8],
+    reader: Reader,
+) -> io::Result<()> {
     let stepped = reader.next(file);
     let answer = stepped.answer;
-    io::write_all(STDOUT_FILENO, b"then ");
-    say_answer(STDOUT_FILENO, file, scratch, out, answer);
+    to.write_all(b"then ")?;
+    say_answer(to, file, scratch, out, answer)?;
     let after = stepped.reader;
     let again = after.next(file);
     let answer = again.answer;
-    io::write_all(STDOUT_FILENO, b"then ");
-    say_answer(STDOUT_FILENO, file, scratch, out, answer);
+    to.write_all(b"then ")?;
+    say_answer(to, file, scratch, out, answer)
 }
 
 fn is_plain(line: &[u8]) -> bool {

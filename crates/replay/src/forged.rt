@@ -7,25 +7,33 @@ use event::{Event, Integer, Length};
 use hexlines::hex::{decode, least};
 use hexlines::line::{next, number};
 use layout::frame::Frame;
-use libc::STDOUT_FILENO;
 use line::piece::Mark;
+use line::put::put_event;
 use number::signed::signed_of;
 use reader::answer::{Answer, Record};
 use reader::refusal::number_of;
 use reader::request::{TextLength, text_length, text_part};
 use reader::state::Reader;
-use say::{say_answer, say_refusal};
+use say::{say_answer, say_put, say_refusal};
+use std::io;
+use std::io::Write;
 
 // `S FILE ..` is a state, any other capital a record.
-pub fn forged(line: &[u8], file: &mut [u8], scratch: &mut [u8], out: &mut [u8]) {
+pub fn forged<W: Write>(
+    to: &mut W,
+    line: &[u8],
+    file: &mut [u8],
+    scratch: &mut [u8],
+    out: &mut [u8],
+) -> io::Result<()> {
     let start = after(line, 0);
     let end = next(line, start, b' ');
     let n = decode(&line[start..end], file);
     let rest = after(line, end);
     if is_state(line) {
-        say_step(&file[..n], scratch, out, state_of(line, rest));
+        say_step(to, &file[..n], scratch, out, state_of(line, rest))
     } else {
-        say_request(&file[..n], scratch, out, line, rest);
+        say_request(to, &file[..n], scratch, out, line, rest)
     }
 }
 
@@ -104,59 +112,64 @@ fn state_of(s: &[u8], fresh: usize) -> Reader {
 }
 
 // One call, its answer with the record's number and offset, and the state afterwards.
-fn say_step(file: &[u8], scratch: &mut [u8], out: &mut [u8], reader: Reader) {
+fn say_step<W: Write>(
+    to: &mut W,
+    file: &[u8],
+    scratch: &mut [u8],
+    out: &mut [u8],
+    reader: Reader,
+) -> io::Result<()> {
     let stepped = reader.next(file);
     let answer = stepped.answer;
-    say_origin(answer);
-    say_answer(STDOUT_FILENO, file, scratch, out, answer);
+    say_origin(to, answer)?;
+    say_answer(to, file, scratch, out, answer)?;
     let after = stepped.reader;
-    say_state(after);
+    say_state(to, after)
 }
 
-fn say_origin(answer: Answer) {
+fn say_origin<W: Write>(to: &mut W, answer: Answer) -> io::Result<()> {
     let Answer::Handed(handed) = answer else {
-        return;
+        return Ok(());
     };
-    io::write_all(STDOUT_FILENO, b"at ");
-    say_number(handed.number as u64, b" ");
-    say_number(handed.offset, b" ");
+    to.write_all(b"at ")?;
+    say_number(to, handed.number as u64, b" ")?;
+    say_number(to, handed.offset, b" ")
 }
 
-fn say_number(n: u64, behind: &[u8]) {
-    io::print_decimal(STDOUT_FILENO, n);
-    io::write_all(STDOUT_FILENO, behind);
+fn say_number<W: Write>(to: &mut W, n: u64, behind: &[u8]) -> io::Result<()> {
+    write!(to, "{n}")?;
+    to.write_all(behind)
 }
 
-fn say_state(reader: Reader) {
-    io::write_all(STDOUT_FILENO, b"state ");
+fn say_state<W: Write>(to: &mut W, reader: Reader) -> io::Result<()> {
+    to.write_all(b"state ")?;
     if reader.fresh {
-        say_number(1, b" ");
+        say_number(to, 1, b" ")?;
     } else {
-        say_number(0, b" ");
+        say_number(to, 0, b" ")?;
     }
-    say_number(reader.length as u64, b" ");
-    say_number(reader.offsets as u64, b" ");
-    say_number(reader.refs as u64, b" ");
-    say_number(reader.count as u64, b" ");
-    say_number(reader.table as u64, b" ");
-    say_number(reader.place, b" ");
-    say_number(reader.depth as u64, b" ");
-    say_frames(reader);
-    io::write_all(STDOUT_FILENO, b"\n");
+    say_number(to, reader.length as u64, b" ")?;
+    say_number(to, reader.offsets as u64, b" ")?;
+    say_number(to, reader.refs as u64, b" ")?;
+    say_number(to, reader.count as u64, b" ")?;
+    say_number(to, reader.table as u64, b" ")?;
+    say_number(to, reader.place, b" ")?;
+    say_number(to, reader.depth as u64, b" ")?;
+    say_frames(to, reader)?;
+    to.write_all(b"\n")
 }
 
 // The frames that are not all zero, and those before them.
-fn say_frames(reader: Reader) {
+fn say_frames<W: Write>(to: &mut W, reader: Reader) -> io::Result<()> {
     let shown = shown_frames(reader);
-    let mut i: usize = 0;
-    while i < shown {
+    for i in 0..shown {
         let frame = reader.frames[i];
-        say_number(frame.object as u64, b":");
-        say_number(frame.position as u64, b":");
-        say_number(frame.length as u64, b":");
-        say_number(frame.offset as u64, b",");
-        i += 1;
+        say_number(to, frame.object as u64, b":")?;
+        say_number(to, frame.position as u64, b":")?;
+        say_number(to, frame.length as u64, b":")?;
+        say_number(to, frame.offset as u64, b",")?;
     }
+    Ok(())
 }
 
 fn shown_frames(reader: Reader) -> usize
@@ -183,7 +196,14 @@ fn shown_frames(reader: Reader) -> usize
 }
 
 // A record's fields are the scratch's length, the kind, its value, the number and the offset. The answer, the scratch afterwards, and the part.
-fn say_request(file: &[u8], scratch: &mut [u8], out: &mut [u8], s: &[u8], length: usize) {
+fn say_request<W: Write>(
+    to: &mut W,
+    file: &[u8],
+    scratch: &mut [u8],
+    out: &mut [u8],
+    s: &[u8],
+    length: usize,
+) -> io::Result<()> {
     let kind = after(s, length);
     let value = after(s, kind);
     let object = after(s, value);
@@ -195,41 +215,42 @@ fn say_request(file: &[u8], scratch: &mut [u8], out: &mut [u8], s: &[u8], length
     };
     blank(scratch);
     let room = least(number(s, length) as usize, scratch.len());
-    ask(file, &mut scratch[..room], out, handed);
+    ask(to, file, &mut scratch[..room], out, handed)
 }
 
-fn ask(file: &[u8], scratch: &mut [u8], out: &mut [u8], handed: Record) {
+fn ask<W: Write>(
+    to: &mut W,
+    file: &[u8],
+    scratch: &mut [u8],
+    out: &mut [u8],
+    handed: Record,
+) -> io::Result<()> {
     let length = text_length(file, scratch, handed);
-    say_length(out, length);
-    say_bytes(out, scratch);
-    say_bytes(out, text_part(file, scratch, handed));
+    say_length(to, out, length)?;
+    say_bytes(to, out, scratch)?;
+    say_bytes(to, out, text_part(file, scratch, handed))
 }
 
-fn say_length(out: &mut [u8], length: TextLength) {
+fn say_length<W: Write>(to: &mut W, out: &mut [u8], length: TextLength) -> io::Result<()> {
     match length {
         TextLength::Length(n) => {
-            io::write_all(STDOUT_FILENO, b"length ");
-            say_number(n, b"\n");
+            to.write_all(b"length ")?;
+            say_number(to, n, b"\n")
         }
-        TextLength::Refused(refusal, place) => say_refusal(
-            STDOUT_FILENO,
-            out,
-            number_of(refusal) as u64,
-            place,
-        ),
+        TextLength::Refused(refusal, place) => {
+            say_refusal(to, out, number_of(refusal) as u64, place)
+        }
     }
 }
 
-fn say_bytes(out: &mut [u8], bytes: &[u8]) {
-    let put = line::put::put_event(out, 0, Event::Data, bytes, Mark::Nothing);
-    say::say_put(STDOUT_FILENO, out, put);
+fn say_bytes<W: Write>(to: &mut W, out: &mut [u8], bytes: &[u8]) -> io::Result<()> {
+    let put = put_event(out, 0, Event::Data, bytes, Mark::Nothing);
+    say_put(to, out, put)
 }
 
 fn blank(scratch: &mut [u8]) {
-    let mut i: usize = 0;
-    while i < scratch.len() {
-        scratch[i] = 0xaa;
-        i += 1;
+    for byte in scratch.iter_mut() {
+        *byte = 0xaa;
     }
 }
 

@@ -1,86 +1,81 @@
 // The answers, a line for each line.
 use hexlines::hex::{decode, encode};
 use hexlines::line::{after, next};
-use libc::STDOUT_FILENO;
+use std::io;
+use std::io::Write;
 use utf::changed::Changed;
 use utf::to_utf16::utf8_to_utf16;
 use utf::utf8::is_ascii;
 use utf::utf16::utf16_to_utf8;
 
-pub fn all(s: &[u8]) {
+pub fn all<W: Write>(to: &mut W, s: &[u8]) -> io::Result<()> {
     let mut at: usize = 0;
     while at < s.len() {
         let end = next(s, at, b'\n');
-        one(&s[at..end]);
+        one(to, &s[at..end])?;
         if end == s.len() {
-            return;
+            return Ok(());
         }
         at = end + 1;
     }
+    Ok(())
 }
 
 // The first word has one digit for UTF-8, and two for UTF-16.
-fn one(line: &[u8]) {
+fn one<W: Write>(to: &mut W, line: &[u8]) -> io::Result<()> {
     let mut bytes = [0u8; 1024];
     let space = next(line, 0, b' ');
     let from = after(line, space);
     let n = decode(&line[from..], &mut bytes);
     if space == 1 {
-        utf8(&bytes[..n]);
+        utf8(to, &bytes[..n])
     } else {
-        utf16(&bytes[..n]);
+        utf16(to, &bytes[..n])
     }
 }
 
-fn utf8(s: &[u8]) {
+fn utf8<W: Write>(to: &mut W, s: &[u8]) -> io::Result<()> {
     let mut text = [0u8; 2048];
     let changed = utf8_to_utf16(s, &mut text);
     let Changed::Written(n) = changed else {
-        refuse(changed);
-        return;
+        return refuse(to, changed);
     };
-    yes(&text[..n]);
+    yes(to, &text[..n])?;
     if is_ascii(s) {
-        io::write_all(STDOUT_FILENO, b" ascii");
+        to.write_all(b" ascii")?;
     }
-    io::write_all(STDOUT_FILENO, b"\n");
+    to.write_all(b"\n")
 }
 
-fn utf16(s: &[u8]) {
+fn utf16<W: Write>(to: &mut W, s: &[u8]) -> io::Result<()> {
     if s.len() % 2 == 1 {
-        io::write_all(STDOUT_FILENO, b"odd\n");
-        return;
+        return to.write_all(b"odd\n");
     }
     let mut text = [0u8; 2048];
     let changed = utf16_to_utf8(s, &mut text);
     let Changed::Written(n) = changed else {
-        refuse(changed);
-        return;
+        return refuse(to, changed);
     };
-    yes(&text[..n]);
-    io::write_all(STDOUT_FILENO, b"\n");
+    yes(to, &text[..n])?;
+    to.write_all(b"\n")
 }
 
 // There is always room: 1,024 bytes become 2,048 at most, each way.
-fn refuse(changed: Changed) {
+fn refuse<W: Write>(to: &mut W, changed: Changed) -> io::Result<()> {
     match changed {
-        Changed::NoRoom => {
-            io::write_all(STDOUT_FILENO, b"no room\n");
-        }
-        _ => {
-            io::write_all(STDOUT_FILENO, b"no\n");
-        }
+        Changed::NoRoom => to.write_all(b"no room\n"),
+        _ => to.write_all(b"no\n"),
     }
 }
 
 // The text in hex, where it is not empty.
-fn yes(text: &[u8]) {
-    io::write_all(STDOUT_FILENO, b"yes");
+fn yes<W: Write>(to: &mut W, text: &[u8]) -> io::Result<()> {
+    to.write_all(b"yes")?;
     if text.len() == 0 {
-        return;
+        return Ok(());
     }
     let mut digits = [0u8; 4096];
     let n = encode(text, &mut digits);
-    io::write_all(STDOUT_FILENO, b" ");
-    io::write_all(STDOUT_FILENO, &digits[..n]);
+    to.write_all(b" ")?;
+    to.write_all(&digits[..n])
 }

@@ -4,76 +4,73 @@ use grammar::answer::{EventKind, Refusal, number_of};
 use hexlines::hex::{decode, encode, least};
 use hexlines::line::{after, next, number};
 use hexlines::stream::{fill, keep};
-use libc::STDOUT_FILENO;
+use std::io;
+use std::io::{Read, Write};
 use writer::answer::Written;
 use writer::write_file;
 
-// More reads than there will be: the loop over standard input needs an end.
+// More reads than there will be: the loop over the input needs an end.
 const READS: u64 = 0x4000_0000_0000_0000;
 
-pub fn all(buffer: &mut [u8]) {
+pub fn all<R: Read, W: Write>(from: &mut R, to: &mut W, buffer: &mut [u8]) -> io::Result<()> {
     let mut held: usize = 0;
-    let mut reads: u64 = 0;
-    while reads < READS {
-        let end = fill(buffer, held);
+    for _ in 0..READS {
+        let end = fill(from, buffer, held)?;
         if end <= held {
-            last(&buffer[..end]);
-            return;
+            return last(to, &buffer[..end]);
         }
-        let used = whole_lines(&buffer[..end]);
+        let used = whole_lines(to, &buffer[..end])?;
         held = keep(buffer, used, end);
-        reads += 1;
     }
+    Ok(())
 }
 
 // What is left when the input has ended: a line without its newline, if anything.
-fn last(s: &[u8]) {
+fn last<W: Write>(to: &mut W, s: &[u8]) -> io::Result<()> {
     if 0 < s.len() {
-        line_of(s);
+        line_of(to, s)?;
     }
+    Ok(())
 }
 
 // Every line that ends here, and where the next begins.
-fn whole_lines(s: &[u8]) -> usize {
+fn whole_lines<W: Write>(to: &mut W, s: &[u8]) -> io::Result<usize> {
     let mut at: usize = 0;
     while at < s.len() {
         let end = next(s, at, b'\n');
         if end == s.len() {
-            return at;
+            return Ok(at);
         }
-        line_of(&s[at..end]);
+        line_of(to, &s[at..end])?;
         at = end + 1;
     }
-    at
+    Ok(at)
 }
 
 // A slash stands between a tape and a path.
-fn line_of(line: &[u8]) {
+fn line_of<W: Write>(to: &mut W, line: &[u8]) -> io::Result<()> {
     let slash = next(line, 0, b'/');
     if slash == line.len() {
-        one(line);
-        return;
+        return one(to, line);
     }
     let path_at = after(line, slash);
-    found_under(&line[..slash], &line[path_at..]);
+    found_under(to, &line[..slash], &line[path_at..])
 }
 
 // A tape in hex, and where a space follows: how many words and bytes are lent, and from which word on words are looked at afterwards. The
 // memory is enough for any tape of 16,384 bytes: eight words for a byte of it, and eight bytes of the file.
-fn one(line: &[u8]) {
+fn one<W: Write>(to: &mut W, line: &[u8]) -> io::Result<()> {
     let mut tape = [0u8; 16384];
     let mut words = [0xaaaa_aaaau32; 131072];
     let mut out = [0xaau8; 131072];
     let space = next(line, 0, b' ');
     if 32768 < space {
-        io::write_all(STDOUT_FILENO, b"long\n");
-        return;
+        return to.write_all(b"long\n");
     }
     let n = decode(&line[..space], &mut tape);
     if space == line.len() {
         let written = write_file(&tape[..n], &mut words, &mut out);
-        say_file(written, &out);
-        return;
+        return say_file(to, written, &out);
     }
     let words_at = after(line, space);
     let room_at = after(line, next(line, words_at, b' '));
@@ -81,17 +78,22 @@ fn one(line: &[u8]) {
     let lent = least(number(line, words_at) as usize, words.len());
     let room = least(number(line, room_at) as usize, out.len());
     let first = number(line, first_at) as usize;
-    lend(&tape[..n], &mut words[..lent], &mut out[..room], first);
+    lend(to, &tape[..n], &mut words[..lent], &mut out[..room], first)
 }
 
-fn lend(tape: &[u8], words: &mut [u32], out: &mut [u8], first: usize) {
+fn lend<W: Write>(
+    to: &mut W,
+    tape: &[u8],
+    words: &mut [u32],
+    out: &mut [u8],
+    first: usize,
+) -> io::Result<()> {
     let written = write_file(tape, words, out);
-    say_answer(written);
-    io::write_all(STDOUT_FILENO, b"out");
-    say_bytes(out);
-    io::write_all(STDOUT_FILENO, b"\nwords ");
-    io::print_decimal(STDOUT_FILENO, kept(words, first));
-    io::write_all(STDOUT_FILENO, b"\n");
+    say_answer(to, written)?;
+    to.write_all(b"out")?;
+    say_bytes(to, out)?;
+    let n = kept(words, first);
+    write!(to, "\nwords {n}\n")
 }
 
 // How many of the last words are as they were. Those before the first one are not looked at.
@@ -107,115 +109,78 @@ fn kept(words: &[u32], first: usize) -> u64 {
 }
 
 // The file that was written, or the refusal.
-fn say_file(written: Written, out: &[u8]) {
+fn say_file<W: Write>(to: &mut W, written: Written, out: &[u8]) -> io::Result<()> {
     let Written::Length(n) = written else {
-        say_answer(written);
-        return;
+        return say_answer(to, written);
     };
-    io::write_all(STDOUT_FILENO, b"file");
-    say_bytes(&out[..least(n, out.len())]);
-    io::write_all(STDOUT_FILENO, b"\n");
+    to.write_all(b"file")?;
+    say_bytes(to, &out[..least(n, out.len())])?;
+    to.write_all(b"\n")
 }
 
-fn say_answer(written: Written) {
+fn say_answer<W: Write>(to: &mut W, written: Written) -> io::Result<()> {
     match written {
-        Written::Length(n) => {
-            io::write_all(STDOUT_FILENO, b"length ");
-            io::print_decimal(STDOUT_FILENO, n as u64);
-        }
+        Written::Length(n) => write!(to, "length {n}")?,
         Written::Refused(refusal, place) => {
-            say_refusal(number_of(refusal) as u64, place);
-            say_kinds(refusal);
+            say_refusal(to, number_of(refusal) as u64, place)?;
+            say_kinds(to, refusal)?;
         }
-        Written::NoRoomForWork => {
-            say_refusal(24, 0);
-        }
-        Written::NoRoomForOutput => {
-            say_refusal(25, 0);
-        }
-        Written::FileTooLong => {
-            say_refusal(26, 0);
-        }
+        Written::NoRoomForWork => say_refusal(to, 24, 0)?,
+        Written::NoRoomForOutput => say_refusal(to, 25, 0)?,
+        Written::FileTooLong => say_refusal(to, 26, 0)?,
     }
-    io::write_all(STDOUT_FILENO, b"\n");
+    to.write_all(b"\n")
 }
 
-pub(crate) fn say_refusal(number: u64, place: u64) {
-    io::write_all(STDOUT_FILENO, b"refused ");
-    io::print_decimal(STDOUT_FILENO, number);
-    io::write_all(STDOUT_FILENO, b" at ");
-    io::print_decimal(STDOUT_FILENO, place);
+pub(crate) fn say_refusal<W: Write>(to: &mut W, number: u64, place: u64) -> io::Result<()> {
+    write!(to, "refused {number} at {place}")
 }
 
 // What an unexpected event names: what was expected, and what was found.
-pub(crate) fn say_kinds(refusal: Refusal) {
+pub(crate) fn say_kinds<W: Write>(to: &mut W, refusal: Refusal) -> io::Result<()> {
     let Refusal::UnexpectedEventType(expected, found) = refusal else {
-        return;
+        return Ok(());
     };
-    say_kind(expected);
-    say_kind(found);
+    say_kind(to, expected)?;
+    say_kind(to, found)
 }
 
-fn say_kind(kind: EventKind) {
-    io::write_all(STDOUT_FILENO, b" ");
+fn say_kind<W: Write>(to: &mut W, kind: EventKind) -> io::Result<()> {
+    to.write_all(b" ")?;
     match kind {
-        EventKind::ValueOrStartCollection => {
-            io::write_all(STDOUT_FILENO, b"ValueOrStartCollection");
-        }
-        EventKind::DictionaryKeyOrEndCollection => {
-            io::write_all(STDOUT_FILENO, b"DictionaryKeyOrEndCollection");
-        }
-        EventKind::StartArray => {
-            io::write_all(STDOUT_FILENO, b"StartArray");
-        }
-        EventKind::StartDictionary => {
-            io::write_all(STDOUT_FILENO, b"StartDictionary");
-        }
-        EventKind::EndCollection => {
-            io::write_all(STDOUT_FILENO, b"EndCollection");
-        }
-        EventKind::Boolean => {
-            io::write_all(STDOUT_FILENO, b"Boolean");
-        }
-        EventKind::Data => {
-            io::write_all(STDOUT_FILENO, b"Data");
-        }
-        EventKind::Date => {
-            io::write_all(STDOUT_FILENO, b"Date");
-        }
-        EventKind::Integer => {
-            io::write_all(STDOUT_FILENO, b"Integer");
-        }
-        EventKind::Real => {
-            io::write_all(STDOUT_FILENO, b"Real");
-        }
-        EventKind::String => {
-            io::write_all(STDOUT_FILENO, b"String");
-        }
-        EventKind::Uid => {
-            io::write_all(STDOUT_FILENO, b"Uid");
-        }
+        EventKind::ValueOrStartCollection => to.write_all(b"ValueOrStartCollection"),
+        EventKind::DictionaryKeyOrEndCollection => to.write_all(b"DictionaryKeyOrEndCollection"),
+        EventKind::StartArray => to.write_all(b"StartArray"),
+        EventKind::StartDictionary => to.write_all(b"StartDictionary"),
+        EventKind::EndCollection => to.write_all(b"EndCollection"),
+        EventKind::Boolean => to.write_all(b"Boolean"),
+        EventKind::Data => to.write_all(b"Data"),
+        EventKind::Date => to.write_all(b"Date"),
+        EventKind::Integer => to.write_all(b"Integer"),
+        EventKind::Real => to.write_all(b"Real"),
+        EventKind::String => to.write_all(b"String"),
+        EventKind::Uid => to.write_all(b"Uid"),
     }
 }
 
 // A space and the bytes in hex, where there are any.
-pub(crate) fn say_bytes(bytes: &[u8]) {
+pub(crate) fn say_bytes<W: Write>(to: &mut W, bytes: &[u8]) -> io::Result<()> {
     if bytes.len() == 0 {
-        return;
+        return Ok(());
     }
-    io::write_all(STDOUT_FILENO, b" ");
+    to.write_all(b" ")?;
     let mut at: usize = 0;
     while 4096 < bytes.len() - at {
         let end = at + 4096;
-        say_digits(&bytes[at..end]);
+        say_digits(to, &bytes[at..end])?;
         at = end;
     }
-    say_digits(&bytes[at..]);
+    say_digits(to, &bytes[at..])
 }
 
 // At most 4,096 bytes.
-fn say_digits(bytes: &[u8]) {
+fn say_digits<W: Write>(to: &mut W, bytes: &[u8]) -> io::Result<()> {
     let mut digits = [0u8; 8192];
     let n = encode(bytes, &mut digits);
-    io::write_all(STDOUT_FILENO, &digits[..n]);
+    to.write_all(&digits[..n])
 }

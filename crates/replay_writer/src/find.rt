@@ -2,40 +2,36 @@
 use crate::answer::{say_bytes, say_kinds, say_refusal};
 use grammar::answer::number_of;
 use hexlines::hex::decode;
-use libc::STDOUT_FILENO;
 use lookup::answer::Found;
 use lookup::find::{find, find_part};
+use std::io;
+use std::io::Write;
 
 // The memory is enough for any tape of 16,384 bytes and any path of 4,096.
-pub(crate) fn found_under(tape_digits: &[u8], path_digits: &[u8]) {
+pub(crate) fn found_under<W: Write>(
+    to: &mut W,
+    tape_digits: &[u8],
+    path_digits: &[u8],
+) -> io::Result<()> {
     let mut tape = [0u8; 16384];
     let mut path = [0u8; 4096];
     let n = decode(tape_digits, &mut tape);
     let m = decode(path_digits, &mut path);
-    say_found(find(&tape[..n], &path[..m]));
-    io::write_all(STDOUT_FILENO, b"part");
-    say_bytes(find_part(&tape[..n], &path[..m]));
-    io::write_all(STDOUT_FILENO, b"\n");
+    say_found(to, find(&tape[..n], &path[..m]))?;
+    to.write_all(b"part")?;
+    say_bytes(to, find_part(&tape[..n], &path[..m]))?;
+    to.write_all(b"\n")
 }
 
-fn say_found(found: Found) {
+fn say_found<W: Write>(to: &mut W, found: Found) -> io::Result<()> {
     match found {
-        Found::Part(start, length) => {
-            io::write_all(STDOUT_FILENO, b"found ");
-            io::print_decimal(STDOUT_FILENO, start as u64);
-            io::write_all(STDOUT_FILENO, b" ");
-            io::print_decimal(STDOUT_FILENO, length as u64);
-        }
-        Found::Nowhere => {
-            io::write_all(STDOUT_FILENO, b"nowhere");
-        }
+        Found::Part(start, length) => write!(to, "found {start} {length}")?,
+        Found::Nowhere => to.write_all(b"nowhere")?,
         Found::Refused(refusal, place) => {
-            say_refusal(number_of(refusal) as u64, place);
-            say_kinds(refusal);
+            say_refusal(to, number_of(refusal) as u64, place)?;
+            say_kinds(to, refusal)?;
         }
-        Found::BadPath => {
-            say_refusal(33, 0);
-        }
+        Found::BadPath => say_refusal(to, 33, 0)?,
     }
-    io::write_all(STDOUT_FILENO, b"\n");
+    to.write_all(b"\n")
 }

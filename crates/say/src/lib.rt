@@ -1,5 +1,7 @@
-// The reader's answers as lines, written to a descriptor, and the listing of a whole file. No promise says what a descriptor takes; what the lent
-// memories hold afterwards is promised of each function here.
+// The reader's answers as lines, put to a writer, and the listing of a whole file. What the lent memories hold afterwards is promised of each
+// function here, whether the writer takes the line or fails.
+#![tactic(auto)]
+
 pub mod list;
 
 ghost use Rattle.std.specs.Prelude.{false, ◌≡◌};
@@ -15,8 +17,16 @@ use line::put::{Fixed, put_event, put_fixed, put_refusal};
 use reader::answer::{Answer, Record};
 use reader::refusal::number_of;
 use reader::request::{text_length, text_part};
+use std::io;
+use std::io::Write;
 
-pub fn say_answer(to: i32, file: &[u8], scratch: &mut [u8], out: &mut [u8], answer: Answer)
+pub fn say_answer<W: Write>(
+    to: &mut W,
+    file: &[u8],
+    scratch: &mut [u8],
+    out: &mut [u8],
+    answer: Answer,
+) -> io::Result<()>
     ensures scratch_after { scratch.new ≡ answer_scratch file.now scratch.old answer }
     ensures out_after { out.new ≡ put_into out.old 0 (answer_line file.now scratch.old answer) }
 {
@@ -27,12 +37,18 @@ pub fn say_answer(to: i32, file: &[u8], scratch: &mut [u8], out: &mut [u8], answ
     }
 }
 
-pub fn say_event(to: i32, file: &[u8], scratch: &mut [u8], out: &mut [u8], handed: Record)
+pub fn say_event<W: Write>(
+    to: &mut W,
+    file: &[u8],
+    scratch: &mut [u8],
+    out: &mut [u8],
+    handed: Record,
+) -> io::Result<()>
     ensures scratch_after { scratch.new ≡ scratch_after file.now scratch.old (asked_of file.now handed) }
     ensures out_after { out.new ≡ put_into out.old 0 (record_line false file.now scratch.old handed) }
 {
     let put = put_record(file, scratch, out, handed, false);
-    say_put(to, out, put);
+    say_put(to, out, put)
 }
 
 // The line of a record, at the start of the memory, in a trace or in a listing. Its bytes are asked for first; there are none where the request is
@@ -79,30 +95,29 @@ fn mark_of(handed: Record, traced: bool) -> Mark
     }
 }
 
-pub fn say_fixed(to: i32, out: &mut [u8], fixed: Fixed)
+pub fn say_fixed<W: Write>(to: &mut W, out: &mut [u8], fixed: Fixed) -> io::Result<()>
     ensures { out.new ≡ put_into out.old 0 (fixed_line fixed) }
 {
     let put = put_fixed(out, 0, fixed);
-    say_put(to, out, put);
+    say_put(to, out, put)
 }
 
-pub fn say_refusal(to: i32, out: &mut [u8], number: u64, place: u64)
+pub fn say_refusal<W: Write>(to: &mut W, out: &mut [u8], number: u64, place: u64) -> io::Result<()>
     ensures { out.new ≡ put_into out.old 0 (refusal_line number place) }
 {
     let put = put_refusal(out, 0, number, place);
-    say_put(to, out, put);
+    say_put(to, out, put)
 }
 
-// Prints the line at the start of the memory.
-pub fn say_put(to: i32, out: &[u8], put: Put) {
+// Puts the line at the start of the memory to the writer.
+pub fn say_put<W: Write>(to: &mut W, out: &[u8], put: Put) -> io::Result<()> {
     match put {
         Put::End(end) => {
             if end <= out.len() {
-                io::write_all(to, &out[..end]);
+                to.write_all(&out[..end])?;
             }
+            Ok(())
         }
-        Put::NoRoom => {
-            io::write_all(to, b"no room\n");
-        }
+        Put::NoRoom => to.write_all(b"no room\n"),
     }
 }

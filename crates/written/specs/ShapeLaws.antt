@@ -10,7 +10,7 @@ use native.Mathlib.Omega.{arith}
 use Rattle.written.specs.NameLaws.{drop_lt, drop_next}
 use Rattle.written.specs.WholeLaws.{passed}
 use Rattle.written.specs.Graph.{Scalar, Kind, dic, Piece, scalar, start, end, Name, val, box, kids, evens, odds}
-use Rattle.written.specs.Shape.{Due, element, key, value, later, inside, takes, opens, closes, fits, whole, skip, name_of, next_in, next_at, is_end, Along, InPairs}
+use Rattle.written.specs.Shape.{Due, element, key, later, inside, takes, opens, closes, fits, whole, skip, name_of, next_in, next_at, is_end, Along, InPairs}
 
 -- NEXT, by the event
 pub next_scalar : (es : List Piece) (i : ℕ) (s : Scalar) (r : List Piece) → drop i es ≡ scalar s ∷ r → next_at es i ≡ suc i
