@@ -147,6 +147,8 @@ class Turner:
         for first in (norm(labels[0]), re.sub("-(law|lem)$", "", norm(labels[0])).lower()):
             if first in START:
                 return [first.replace("-", "_"), *labels[1:]]
+            if first == "pre":
+                return ["requires", *labels[1:]]
             here = next((p for n in (0, 1) for p in chain if norm(self.fun.place[p]["step"][n]) == first), None)
             here = here or next((p for p in chain if norm(self.fun.place[p]["step"][0]).lower() == first), None)
             if not here:
@@ -258,7 +260,11 @@ class Turner:
 
 def bound_place(block):
     """Binds the place that a lemma's type names without a name."""
-    return re.sub(rf"(?m)^( *(?:abbrev )?(?:pub )?{W} :) tie\.((?!Need-){W}(?: invariant-{W}| decreases-{W})*) →", r"\1 (c : tie.\2) →", block)
+    def one(found):
+        head = re.search(rf"(?m)^ *{re.escape(found[2])} ([^\s=(]+)", block[found.end() :])
+        return f"{found[1]} ({head[1] if head else 'c'} : tie.{found[3]}) →"
+
+    return re.sub(rf"(?m)^( *(?:abbrev )?(?:pub )?({W}) :) tie\.((?!Need-){W}(?: invariant-{W}| decreases-{W})*) →", one, block)
 
 
 def split_top(text):
@@ -421,7 +427,7 @@ def written(crate, path, text, where, t):
                 continue
             unfolding = rest[: b.start()].strip()
             params = [p for p in b[1].split() if p != "κs"]
-            body = t.body(b[2], place, f"{where}:{it[1]}", params[-1] if params else "c")
+            body = t.body(b[2], place, f"{where}:{it[1]}", "c" if "c" in params else params[0] if params else "c")
             if new.startswith("returns"):
                 body = as_record(body, fun.own.get("ensures", []))
             answers.append("\n".join(notes + [f"pub {new} : goal.{new}"] + ([unfolding] if unfolding else []) + [f"{new} {' '.join(params)} ={named(body)}"]))
