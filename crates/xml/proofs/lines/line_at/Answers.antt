@@ -1,11 +1,11 @@
 -- `line_at` puts the line of the item that stands there; text has its own function.
 use mathlib.Core.Path.{◌≡◌, sym, ◌∙◌}
-use Prim.Native.Nat.{ℕ}
 use native.Mathlib.Omega.{arith}
 use Rattle.number.specs.BeLaws.{Bytes, bytes_of_law}
 use Rattle.tape.specs.Item.{item_at}
 use Rattle.tape.specs.declared.item.Step.TheVariants.{Item as ItemOf}
 use Rattle.xml.proofs.Telling.{not_bad, held_within, item_span, lent_short, lent_allowed, tells_item}
+use borrow.Author.Rules.{rules}
 use Rattle.xml.proofs.lines.line_at.Goals as goal
 use Rattle.xml.proofs.lines.line_at.Lts as lts
 use Rattle.xml.proofs.lines.line_at.Reads as reads
@@ -20,7 +20,7 @@ returns-in_default c =
 
 -- the item, of a tape that is bytes
 at_item : (x : lts.Past-After-known_told tie.the-claims reads.Pre reads.Post) → Bytes x.args.tape.now × (item_at x.args.tape.now x.args.at ≡ ItemOf x.in-Item.item)
-at_item x = (bytes_of_law x.args.tape.now (λ (k : ℕ). omega (arith, x.shared_slice_known-1.given k)), sym x.item_at.ensures ∙ x.in-Item.is)
+at_item x = (bytes_of_law x.args.tape.now (search rules), sym x.item_at.ensures ∙ x.in-Item.is)
 
 pub slice_bounds-put_line-count : goal.slice_bounds-put_line-count
 slice_bounds-put_line-count c =

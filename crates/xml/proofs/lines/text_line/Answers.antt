@@ -13,6 +13,7 @@ use Rattle.tape.specs.declared.item.Step.TheVariants.{Item as ItemOf}
 use Rattle.xml.proofs.Telling.{held_within, text_none, text_some, lent_short, lent_allowed, tells_item}
 use Rattle.xml.specs.LineLaws.{lined_text}
 use Rattle.xml.specs.Lines.{open_way}
+use borrow.Author.Rules.{rules}
 use Rattle.xml.proofs.lines.text_line.Goals as goal
 use Rattle.xml.proofs.lines.text_line.Lts as lts
 use Rattle.xml.proofs.lines.text_line.Reads as reads
@@ -37,7 +38,7 @@ found : (x : lts.Past-After-known_told tie.the-claims reads.Pre reads.Post) →
 unfolding bytes_at
 found x =
     let t = text_some x.args.tape.now x.args.at x.requires.2 x.requires.3 (sym x.length_at.ensures ∙ x.in-Of.is) in
-    (bytes_of_law x.args.tape.now (λ (k : ℕ). omega (arith, x.shared_slice_known-1.given k)), t.0, sym t.1)
+    (bytes_of_law x.args.tape.now (search rules), t.0, sym t.1)
 
 pub overflow_add-end : goal.overflow_add-end
 overflow_add-end c = omega (arith, (found c.before).1)
