@@ -45,7 +45,7 @@ class Function:
         # the chain of the records of Lts, and the places that have a view, as the check generates them
         self.before, self.views = {}, None
         if generated and os.path.exists(generated + "/Lts.antt"):
-            text = open(generated + "/Lts.antt", encoding="utf-8").read()
+            text = text_of_lts = open(generated + "/Lts.antt", encoding="utf-8").read()
             self.before = {norm(a): norm(b) for a, b in re.findall(r"pub record (\S+) : Type 0 where\n +pub before : (\S+)", text)}
             self.views = {}
         if generated and os.path.exists(generated + "/Lts/View.antt"):
@@ -64,6 +64,9 @@ class Function:
         self.loops = {norm(a[0]): (a, b, changed) for (a, b), changed in zip(of["loops"], of["changed"])}
         claims = ["tie.the-claims"] if any(it[3] for it in of["places"]) else []
         handed = ["tie.handed_clauses"] if len(self.own.get("ensures", [])) > 1 else []
+        if self.before:
+            claims = ["tie.the-claims"] if "module _ (the-claims : Claims)" in text_of_lts else []
+            handed = ["tie.handed_clauses"] if "pub record the-Clauses" in text_of_lts else []
         bounds = [f"goal.the-{kind}-{a[1]}" for a, _ in of["loops"] for kind in ("invariant", "decreases")]
         # what the records of Lts take
         self.given = " ".join(claims + ["reads.Pre", "reads.Post"] + bounds + handed)
@@ -377,7 +380,7 @@ def written(crate, path, text, where, t):
                 t.block[f[1]] = block[:80]
     uses_lts = False
     locals_ = {}
-    for block in blocks[1:]:
+    for block in map(bound_place, blocks[1:]):
         lines = block.split("\n")
         notes = []
         while lines and lines[0].startswith("--"):

@@ -16,7 +16,7 @@ use Rattle.tape.specs.Events.{tape_of}
 use Rattle.transcribe.specs.Run.{End, ended, Run, transcript_of}
 use Rattle.transcribe.specs.TranscriptLaws.{meanings_of, Transcribed, transcript_told}
 use Rattle.written_claims.specs.Filled.{filled}
-use Rattle.written_claims.specs.Good.{Good}
+use Rattle.written_claims.proofs.Good.{Good}
 use Rattle.written_claims.specs.Outcome.{Enough, outcome_of, Holds}
 
 -- the numbers and the tape that are answered, by how a transcript ends and the events that it holds; nothing behind them has changed

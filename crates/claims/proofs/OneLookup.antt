@@ -15,7 +15,7 @@ use Rattle.lookup.proofs.find.find.Reads as find-reads
 use Rattle.lookup.proofs.find.find_part.Kinds as find-part-kinds
 use Rattle.lookup.proofs.find.find_part.Reads as find-part-reads
 use Rattle.lookup.specs.Find.{found, not_found, find_of}
-use Rattle.lookup.specs.FoundLaws.{Holds, found_value, none_value}
+use Rattle.lookup.proofs.FoundLaws.{Holds, found_value, none_value}
 use Rattle.lookup.specs.Path.{keys_of}
 use Rattle.lookup.specs.SaidLaws.{found_said_one}
 use Rattle.lookup.specs.Value.{value_at}

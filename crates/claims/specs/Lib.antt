@@ -17,7 +17,6 @@ pub mod Origin
 pub mod Pigeon
 pub mod Reached
 pub mod Recursion
-pub mod Refusal
 pub mod Stack
 pub mod Weight
 pub mod WholeSeconds

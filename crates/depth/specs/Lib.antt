@@ -1,8 +1,2 @@
 pub mod Nested
 pub mod PieceLaws
-pub mod FileLaws
-pub mod CheckLaws
-pub mod WriteLaws
-pub mod ReadLaws
-pub mod DeepLaws
-pub mod Cases

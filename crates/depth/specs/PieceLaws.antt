@@ -5,8 +5,8 @@ use Rattle.std.proofs.Math.Option.{none}
 use Rattle.std.proofs.Common.{sym, ap, ◌∙◌, zero-add, add-zero, suc-add, arith, ne_eqb}
 use Rattle.event.specs.Meaning.{Meaning, array, close}
 use Rattle.written.specs.Graph.{arr, Piece, start, end, piece_of, Name, box, same, kids, laid, names, order, number, spoken, emission}
-use Rattle.written.specs.NameLaws.{In}
-use Rattle.written.specs.NumberLaws.{order_in, number_at_law}
+use Rattle.written.proofs.NameLaws.{In}
+use Rattle.written.proofs.NumberLaws.{order_in, number_at_law}
 use Rattle.written.specs.Nub.{has, nub, nub_onto}
 use Rattle.depth.specs.Nested.{nest}
 

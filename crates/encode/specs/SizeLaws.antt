@@ -19,7 +19,7 @@ use Rattle.utf.specs.ToUtf16.{units_in}
 use Rattle.utf.specs.ToUtf16Walk.{counted, length_utf16}
 use Rattle.utf.specs.Unicode.{is_ascii, is_utf8}
 use Rattle.written.specs.Encoding.{integer_bytes, head_bytes, text_bytes, scalar_bytes}
-use Rattle.written.specs.EncodingLaws.{length_number_law, head_length, head_pos, head_le}
+use Rattle.written.proofs.EncodingLaws.{length_number_law, head_length, head_pos, head_le}
 use Rattle.written.specs.Scalar.{IsScalar, units_for}
 use Rattle.encode.specs.Size.{head_size, bytes_alone, integer_size, uid_size, data_size, part_size, text_size, size_behind, size_at}
 use Rattle.encode.specs.declared.size.Sized.{Sized}

@@ -1,5 +1,5 @@
 -- Key by key: what is left of the path decides.
-use mathlib.Core.Bool.{true, false, false≢true}
+use mathlib.Core.Bool.{true, false≢true}
 use mathlib.Core.List.{List}
 use mathlib.Core.Option.{Option, none, some}
 use mathlib.Core.Path.{◌≡◌, refl, sym, ap, ◌∙◌}
@@ -10,7 +10,7 @@ use lib.ListN.{take, drop}
 use Rattle.event.specs.Meaning.{Meaning}
 use Rattle.tape.specs.Events.{meanings_in}
 use Rattle.lookup.specs.Find.{found, not_found, by_path}
-use Rattle.lookup.specs.FindLaws.{by_stop, by_next, by_end}
+use Rattle.lookup.proofs.FindLaws.{by_stop, by_next, by_end}
 use Rattle.lookup.specs.Path.{key_at, with_key, keys_from, is_some}
 use Rattle.lookup.specs.PathLaws.{keys_next, some_next, some_stop}
 use Rattle.lookup.specs.Rest.{events_at, Rest, Placed}

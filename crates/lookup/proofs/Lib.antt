@@ -3,3 +3,8 @@ pub mod Growing
 pub mod Same
 pub mod Seeking
 pub mod Walking
+pub mod FindLaws
+pub mod FoundLaws
+pub mod RootLaws
+pub mod ValueLaws
+pub mod WholeLaws

@@ -17,7 +17,7 @@ use Rattle.tape.specs.declared.end.End.TheVariants.{At, NoEvent}
 use Rattle.lookup.specs.Rest.{events_at, Rest, deeper_by}
 use Rattle.lookup.specs.RestLaws.{rest_some, rest_none, rest_reads, rest_next, rest_at, rest_deeper}
 use Rattle.lookup.specs.Value.{deeper, behind}
-use Rattle.lookup.specs.ValueLaws.{behind_here, behind_on}
+use Rattle.lookup.proofs.ValueLaws.{behind_here, behind_on}
 
 -- where an event stands, it ends where the next one begins
 module _ (tape : List ℕ) (at : ℕ) {told : End} (is : told ≡ end_of tape at) (m : Meaning) (next : ℕ) (reads : read_at tape at ≡ event m next) where

@@ -3,15 +3,10 @@ pub mod AppendLaws
 pub mod Computed
 pub mod Examples
 pub mod Find
-pub mod FindLaws
-pub mod FoundLaws
 pub mod KeysLaws
 pub mod Path
 pub mod PathLaws
 pub mod Rest
 pub mod RestLaws
-pub mod RootLaws
 pub mod SaidLaws
 pub mod Value
-pub mod ValueLaws
-pub mod WholeLaws

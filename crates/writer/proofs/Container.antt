@@ -6,11 +6,11 @@ use Rattle.tape.specs.Events.{start_at}
 use Rattle.written.specs.Encoding.{object_bytes, list, pairs}
 use Rattle.written.specs.File.{bytes_at}
 use Rattle.written.specs.Graph.{Kind, arr, dic, Piece, start, Name, box, same, order, number, kids, evens, odds}
-use Rattle.written.specs.NameLaws.{In, length_odds}
+use Rattle.written.proofs.NameLaws.{In, length_odds}
 use Rattle.written.specs.Nub.{has, nub_onto}
-use Rattle.written.specs.RepLaws.{rep_box}
+use Rattle.written.proofs.RepLaws.{rep_box}
 use Rattle.written.specs.Shape.{skip}
-use Rattle.written.specs.ShapeLaws.{in_pairs, pairs_length}
+use Rattle.written.proofs.ShapeLaws.{in_pairs, pairs_length}
 use Rattle.written.specs.Weigh.{rep_of}
 use Rattle.writer.specs.IndexedLaws.{path_members, path_keys, path_values}
 use Rattle.writer.specs.Marks.{Path}

@@ -3,16 +3,16 @@ use Rattle.std.proofs.Common.{◌≡◌, ℕ, zero, suc, ◌+◌, ◌-◌, ◌*�
 use lib.Seq.{sets, length-sets}
 use Rattle.event.specs.Format.{max_open}
 use Rattle.written.specs.File.{flat, bytes_at, body}
-use Rattle.written.specs.FileLaws.{order_few}
+use Rattle.written.proofs.FileLaws.{order_few}
 use Rattle.written.specs.Graph.{Scalar, Kind, Piece, scalar, start, end, Name, val, same, number, emission}
-use Rattle.written.specs.NameLaws.{In, in_here, in_left, in_right, same_sound}
+use Rattle.written.proofs.NameLaws.{In, in_here, in_left, in_right, same_sound}
 use Rattle.written.specs.Nub.{has, nub, nub_onto, nub_has}
-use Rattle.written.specs.NumberLaws.{number_lt}
-use Rattle.written.specs.RepLaws.{rep_same}
+use Rattle.written.proofs.NumberLaws.{number_lt}
+use Rattle.written.proofs.RepLaws.{rep_same}
 use Rattle.written.specs.Shape.{skip, next_at}
-use Rattle.written.specs.ShapeLaws.{next_scalar, next_start, next_end, closed_at}
+use Rattle.written.proofs.ShapeLaws.{next_scalar, next_start, next_end, closed_at}
 use Rattle.written.specs.Upto.{spoken_upto}
-use Rattle.written.specs.UptoLaws.{spoken_more, spoken_scalar}
+use Rattle.written.proofs.UptoLaws.{spoken_more, spoken_scalar}
 use Rattle.written.specs.Weigh.{rep_of}
 use Rattle.writer.specs.ClearLaws.{length_cleared, cleared_in, cleared_below}
 use Rattle.writer.specs.Columns.{Indexed, cleared}

@@ -6,7 +6,7 @@ use Rattle.number.specs.Be.{bytes_of}
 use Rattle.number.specs.BeLaws.{length_bytes_of}
 use Rattle.utf.proofs.Writing.{sets_append}
 use Rattle.written.specs.Encoding.{numbers_bytes}
-use Rattle.written.specs.FileLaws.{length_numbers}
+use Rattle.written.proofs.FileLaws.{length_numbers}
 use Rattle.writer.specs.Speak.{Refs, Wrote}
 
 pub record Rest (out₀ : List ℕ) (from size : ℕ) (all out : List ℕ) (pos : ℕ) (left : List ℕ) : Type 0 where

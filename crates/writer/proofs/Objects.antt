@@ -3,7 +3,7 @@ use Rattle.std.proofs.Common.{◌≡◌, ℕ, ◌+◌, ◌*◌, ◌≤◌, List,
 use lib.Seq.{length-sets}
 use Rattle.utf.proofs.Writing.{sets_append}
 use Rattle.written.specs.Encoding.{head_bytes, numbers_bytes, object_bytes, list, pairs}
-use Rattle.written.specs.FileLaws.{length_numbers, numbers_append}
+use Rattle.written.proofs.FileLaws.{length_numbers, numbers_append}
 use Rattle.writer.specs.Speak.{Each, Listed, Paired, Wrote}
 
 -- bytes behind others

@@ -4,11 +4,11 @@ use Rattle.tape.specs.Events.{start_at}
 use Rattle.encode.specs.Put.{bytes_at as bytes_on}
 use Rattle.encode.specs.ScalarLaws.{scalar_there}
 use Rattle.written.specs.Encoding.{scalar_bytes}
-use Rattle.written.specs.EncodingLaws.{scalar_pos}
+use Rattle.written.proofs.EncodingLaws.{scalar_pos}
 use Rattle.written.specs.File.{bytes_at}
 use Rattle.written.specs.Graph.{Scalar, scalar, Name, val, same, number}
 use Rattle.written.specs.Nub.{nub_onto}
-use Rattle.written.specs.RepLaws.{rep_le, rep_same}
+use Rattle.written.proofs.RepLaws.{rep_le, rep_same}
 use Rattle.written.specs.Scalar.{units_for}
 use Rattle.written.specs.Weigh.{rep_of}
 use Rattle.writer.specs.ColumnsLaws.{indexed_set}

@@ -2,10 +2,10 @@
 use Rattle.std.proofs.Common.{◌≡◌, ℕ, suc, ◌+◌, ◌<◌, ◌≤◌, List, [], ◌∷◌, length, get_or, sym, refl, ap, ◌∙◌, arith}
 use lib.Seq.{length-sets}
 use Rattle.written.specs.Graph.{Name, val, same}
-use Rattle.written.specs.NameLaws.{in_here, in_there}
+use Rattle.written.proofs.NameLaws.{in_here, in_there}
 use Rattle.written.specs.Nub.{has, nub_onto}
 use Rattle.written.specs.Shape.{InPairs, next_at}
-use Rattle.written.specs.ShapeLaws.{MetPair, pairs_step, pairs_end}
+use Rattle.written.proofs.ShapeLaws.{MetPair, pairs_step, pairs_end}
 use Rattle.writer.specs.Ready.{pieces_in}
 use Rattle.writer.specs.ReadyLaws.{drop_piece}
 use Rattle.writer.specs.Speak.{end_of, Room, Grown, Single, Named, Keys}

@@ -3,7 +3,7 @@ use Rattle.std.specs.Prelude.{◌≡◌, ℕ, zero, suc, ◌+◌, ◌-◌, ◌*�
 use Rattle.std.proofs.lemmas.Bool.{false≢true}
 use Rattle.std.proofs.Common.{sym, ◌∙◌, mod-lt, div-lt_iff_lt-mul, mul-le-mul, mul-lt-mul_of_pos_right, mul_comm, arith, ltb-true, ltb-false, eqb-true, eq-eqb, lit<, ext_get_or}
 use Rattle.written.specs.Graph.{same_bytes}
-use Rattle.written.specs.NameLaws.{bytes_sound, bytes_refl}
+use Rattle.written.proofs.NameLaws.{bytes_sound, bytes_refl}
 use Rattle.writer.specs.Alike.{agree_upto, turned_of}
 
 -- bytes that aren't the same

@@ -7,9 +7,9 @@ use Rattle.std.proofs.lemmas.List.{length-map}
 use Rattle.event.specs.Format.{max_open}
 use Rattle.written.specs.Graph.{Kind, arr, dic, Piece, scalar, start, end, Name, same, kids, evens, odds, laid}
 use Rattle.written.specs.Nub.{has, nub_onto, nub_onto_append, nub_onto_keeps}
-use Rattle.written.specs.RepLaws.{Among, among_evens, among_odds, kids_told, event_in_law, rep_le}
+use Rattle.written.proofs.RepLaws.{Among, among_evens, among_odds, kids_told, event_in_law, rep_le}
 use Rattle.written.specs.Shape.{skip, next_at, name_of}
-use Rattle.written.specs.ShapeLaws.{next_scalar, next_start, next_end, along, along_length, in_pairs, pairs_length, closed_at, root_is}
+use Rattle.written.proofs.ShapeLaws.{next_scalar, next_start, next_end, along, along_length, in_pairs, pairs_length, closed_at, root_is}
 use Rattle.written.specs.Weigh.{event_names, rep_of}
 use Rattle.writer.specs.ClearLaws.{length_cleared, cleared_in, cleared_below}
 use Rattle.writer.specs.Columns.{Indexed, cleared}

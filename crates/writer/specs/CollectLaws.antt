@@ -11,7 +11,7 @@ use Rattle.tape.specs.declared.end.End.{End}
 use Rattle.tape.specs.declared.end.End.TheVariants.{At, NoEvent}
 use Rattle.tape.specs.Item.{read_at, event}
 use Rattle.written.specs.Graph.{arr, dic, Piece, scalar, start, end, val}
-use Rattle.written.specs.RepLaws.{rep_le, rep_box, rep_end}
+use Rattle.written.proofs.RepLaws.{rep_le, rep_box, rep_end}
 use Rattle.written.specs.Shape.{name_of}
 use Rattle.written.specs.Weigh.{rep_of}
 use Rattle.writer.specs.Collect.{FirstOf, alone_by, Turn}

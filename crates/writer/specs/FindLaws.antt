@@ -7,8 +7,8 @@ use Rattle.event.specs.Format.{max_length}
 use Rattle.event.specs.Meaning.{Meaning}
 use Rattle.tape.specs.Code.{bytes_for}
 use Rattle.written.specs.Graph.{Scalar, arr, dic, Piece, scalar, start, end, piece_of, val, same_bytes, same}
-use Rattle.written.specs.NameLaws.{bytes_refl, same_comm, same_sound}
-use Rattle.written.specs.RepLaws.{rep_le, rep_same}
+use Rattle.written.proofs.NameLaws.{bytes_refl, same_comm, same_sound}
+use Rattle.written.proofs.RepLaws.{rep_le, rep_same}
 use Rattle.written.specs.Shape.{name_of}
 use Rattle.written.specs.Weigh.{rep_of}
 use Rattle.writer.specs.AlikeLaws.{bytes_other}

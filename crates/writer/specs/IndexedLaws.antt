@@ -3,10 +3,10 @@ use Rattle.std.specs.Prelude.{◌≡◌, ℕ, suc, ◌+◌, ◌<◌, List, [], �
 use Rattle.std.proofs.Common.{sym, add-zero, add-suc, add-one, arith}
 use Rattle.event.specs.Format.{max_open}
 use Rattle.written.specs.Graph.{Kind, dic, Piece, scalar, start, Name, kids, evens, odds}
-use Rattle.written.specs.NameLaws.{drop_next}
-use Rattle.written.specs.RepLaws.{rep_le}
+use Rattle.written.proofs.NameLaws.{drop_next}
+use Rattle.written.proofs.RepLaws.{rep_le}
 use Rattle.written.specs.Shape.{skip, name_of, next_at, Along, InPairs}
-use Rattle.written.specs.ShapeLaws.{next_above, along, in_pairs}
+use Rattle.written.proofs.ShapeLaws.{next_above, along, in_pairs}
 use Rattle.written.specs.Weigh.{rep_of}
 use Rattle.writer.specs.Columns.{Indexed}
 use Rattle.writer.specs.Marks.{Path}

@@ -3,12 +3,12 @@ use Rattle.std.specs.Prelude.{◌≡◌, ℕ, suc, ◌+◌, ◌≤◌, List, [],
 use mathlib.Core.List.{append-nil, append_assoc}
 use Rattle.std.proofs.Common.{ap, ◌∙◌, arith, length-append}
 use Rattle.std.proofs.Math.Nat.{zero-add}
-use Rattle.written.specs.FileLaws.{order_few}
+use Rattle.written.proofs.FileLaws.{order_few}
 use Rattle.written.specs.Graph.{Scalar, Kind, Piece, scalar, start, end, Name, same, kids, laid, names, order}
 use Rattle.written.specs.Nub.{nub, nub_onto, nub_append, nub_onto_append}
-use Rattle.written.specs.RepLaws.{Among, among_append, among_left, among_nub, root_told, names_told}
+use Rattle.written.proofs.RepLaws.{Among, among_append, among_left, among_nub, root_told, names_told}
 use Rattle.written.specs.Upto.{names_upto}
-use Rattle.written.specs.UptoLaws.{names_more, names_scalar, names_end, names_all, names_parts}
+use Rattle.written.proofs.UptoLaws.{names_more, names_scalar, names_end, names_all, names_parts}
 use Rattle.written.specs.Weigh.{event_names}
 use Rattle.writer.specs.Marks.{kept_at}
 

@@ -8,11 +8,11 @@ use Rattle.tape.specs.Code.{bytes_for, allowed}
 use Rattle.tape.specs.Events.{start_at}
 use Rattle.utf.specs.ToUtf16Walk.{counted}
 use Rattle.utf.specs.Unicode.{is_ascii, utf16, scalars8}
-use Rattle.written.specs.CountLaws.{sum}
+use Rattle.written.proofs.CountLaws.{sum}
 use Rattle.written.specs.Encoding.{scalar_bytes}
-use Rattle.written.specs.EncodingLaws.{head_le, scalar_size_le}
+use Rattle.written.proofs.EncodingLaws.{head_le, scalar_size_le}
 use Rattle.written.specs.Graph.{Piece, scalar, start, end, val, kids, meant}
-use Rattle.written.specs.NameLaws.{drop_next}
+use Rattle.written.proofs.NameLaws.{drop_next}
 use Rattle.written.specs.Scalar.{units_for}
 use Rattle.written.specs.Weigh.{rep_of, counted as length_of, weight_of, weight_from, members_of, members_from}
 use Rattle.writer.specs.Columns.{Collected, Measured}

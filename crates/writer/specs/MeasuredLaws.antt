@@ -14,10 +14,10 @@ use Rattle.encode.specs.declared.size.Size.{Size}
 use Rattle.encode.specs.declared.size.Sized.TheVariants.{Found, NoScalar}
 use Rattle.written.specs.Encoding.{scalar_bytes}
 use Rattle.written.specs.Graph.{Scalar, Kind, arr, dic, Piece, scalar, start, end, val, kids, meant}
-use Rattle.written.specs.NameLaws.{scalar_start, end_start}
+use Rattle.written.proofs.NameLaws.{scalar_start, end_start}
 use Rattle.written.specs.Scalar.{units_for}
 use Rattle.written.specs.Shape.{skip, next_at, is_end}
-use Rattle.written.specs.ShapeLaws.{next_scalar, next_start, next_end, along, along_length, along_step, along_more, along_over, closed_at, stop_next, root_is}
+use Rattle.written.proofs.ShapeLaws.{next_scalar, next_start, next_end, along, along_length, along_step, along_more, along_over, closed_at, stop_next, root_is}
 use Rattle.written.specs.Weigh.{rep_of, counted, weight_of, members_of}
 use Rattle.writer.specs.Columns.{alone_in, Measured}
 use Rattle.writer.specs.Measure.{Weighs, Passed}

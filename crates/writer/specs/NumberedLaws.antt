@@ -4,9 +4,9 @@ use Rattle.std.proofs.lemmas.Bool.{false≢true}
 use Rattle.std.proofs.Common.{sym, ap, ◌∙◌, arith}
 use Rattle.std.proofs.lemmas.List.{length-map}
 use Rattle.written.specs.Graph.{Piece, Name, same, order, number}
-use Rattle.written.specs.NameLaws.{In, same_sound}
+use Rattle.written.proofs.NameLaws.{In, same_sound}
 use Rattle.written.specs.Nub.{has, nub_onto}
-use Rattle.written.specs.RepLaws.{Among, rep_lt, has_reps, index_reps, nub_reps, among_nub}
+use Rattle.written.proofs.RepLaws.{Among, rep_lt, has_reps, index_reps, nub_reps, among_nub}
 use Rattle.written.specs.Weigh.{event_names, rep_of}
 use Rattle.writer.specs.Columns.{Indexed}
 use Rattle.writer.specs.ColumnsLaws.{indexed_kept}

@@ -6,10 +6,10 @@ use Rattle.number.specs.Size.{size_of}
 use Rattle.number.specs.SizeLaws.{Sized, one, two, four, eight, sized}
 use Rattle.event.specs.Format.{max_open}
 use Rattle.written.specs.File.{ref_size, table_at, offset_size}
-use Rattle.written.specs.FileLaws.{file_length, order_few, order_some}
+use Rattle.written.proofs.FileLaws.{file_length, order_few, order_some}
 use Rattle.written.specs.Graph.{order}
 use Rattle.written.specs.Weigh.{weight_from, members_from}
-use Rattle.written.specs.WeighLaws.{body_length}
+use Rattle.written.proofs.WeighLaws.{body_length}
 use Rattle.writer.specs.Columns.{Indexed}
 use Rattle.writer.specs.Marks.{Numbered}
 use Rattle.writer.specs.NumberedLaws.{numbered_count}

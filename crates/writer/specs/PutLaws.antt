@@ -9,13 +9,13 @@ use Rattle.number.specs.BeLaws.{Bytes, bytes_of_be, length_bytes_of}
 use Rattle.number.specs.Size.{size_of}
 use Rattle.event.specs.Format.{magic}
 use Rattle.written.specs.Encoding.{numbers_bytes, trailer_bytes}
-use Rattle.written.specs.EmissionLaws.{numbered_written}
+use Rattle.written.proofs.EmissionLaws.{numbered_written}
 use Rattle.written.specs.File.{body, table, table_at, offset_size, ref_size, place_of, file_of}
 use Rattle.number.specs.SizeLaws.{sized, sized_le}
-use Rattle.written.specs.FileLaws.{length_table, order_few}
+use Rattle.written.proofs.FileLaws.{length_table, order_few}
 use Rattle.written.specs.Graph.{Piece, box, order, emission}
-use Rattle.written.specs.NameLaws.{get_d_map_lt}
-use Rattle.written.specs.NumberLaws.{number_at_law, order_in}
+use Rattle.written.proofs.NameLaws.{get_d_map_lt}
+use Rattle.written.proofs.NumberLaws.{number_at_law, order_in}
 use Rattle.writer.specs.Ready.{Ready, pieces_in}
 use Rattle.writer.specs.ReadyLaws.{ready_count}
 use Rattle.writer.specs.Speak.{place_in, Placed, Wrote}

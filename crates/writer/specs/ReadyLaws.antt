@@ -15,7 +15,7 @@ use Rattle.tape.specs.EventsLaws.{AllOnTape, whole_is, tape_append, tape_long}
 use Rattle.tape.specs.Item.{event, read_at}
 use Rattle.tape.specs.SameLaws.{item_bytes, item_within}
 use Rattle.written.specs.Graph.{Scalar, Kind, arr, dic, Piece, scalar, start, end, piece_of, meaning_in, meant}
-use Rattle.written.specs.NameLaws.{drop_lt}
+use Rattle.written.proofs.NameLaws.{drop_lt}
 use Rattle.written.specs.Scalar.{IsScalar}
 use Rattle.writer.specs.Ready.{pieces_in, Ready}
 

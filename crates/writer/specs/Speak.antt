@@ -5,7 +5,7 @@ use Rattle.event.specs.Format.{max_length}
 use Rattle.written.specs.Encoding.{object_bytes, list, pairs}
 use Rattle.written.specs.File.{flat, ahead, bytes_at, table_at, ref_size, file_of}
 use Rattle.written.specs.Graph.{Scalar, Piece, scalar, Name, val, same, order, number}
-use Rattle.written.specs.NameLaws.{In}
+use Rattle.written.proofs.NameLaws.{In}
 use Rattle.written.specs.Nub.{has, nub, nub_onto}
 use Rattle.written.specs.Shape.{InPairs}
 use Rattle.written.specs.Upto.{spoken_upto}

@@ -6,20 +6,20 @@ use Rattle.std.proofs.Math.Path.{refl, ap}
 use Rattle.std.proofs.Math.ListN.{length-append}
 use Rattle.std.proofs.lemmas.List.Edits.{sets}
 use Rattle.utf.proofs.Writing.{sets_append}
-use Rattle.written.specs.CountLaws.{out_laid}
-use Rattle.written.specs.EmissionLaws.{written_numbered}
+use Rattle.written.proofs.CountLaws.{out_laid}
+use Rattle.written.proofs.EmissionLaws.{written_numbered}
 use Rattle.written.specs.Encoding.{object_bytes, list, pairs, scalar_bytes}
-use Rattle.written.specs.FileLaws.{order_few}
+use Rattle.written.proofs.FileLaws.{order_few}
 use Rattle.written.specs.File.{flat, ahead, bytes_at, ref_size, table_at}
-use Rattle.written.specs.FlatLaws.{flat_append, ahead_kept, ahead_new, front_le}
+use Rattle.written.proofs.FlatLaws.{flat_append, ahead_kept, ahead_new, front_le}
 use Rattle.written.specs.Graph.{Scalar, Kind, arr, dic, Piece, scalar, start, end, Name, val, box, same, order, number, kids, evens, odds, laid, names, object_of, body_of, meant, spoken, emission}
-use Rattle.written.specs.NameLaws.{In, in_here, in_there, in_left, in_right, same_sound, same_refl}
-use Rattle.written.specs.NumberLaws.{number_lt, number_one, kid_named, from_order}
+use Rattle.written.proofs.NameLaws.{In, in_here, in_there, in_left, in_right, same_sound, same_refl}
+use Rattle.written.proofs.NumberLaws.{number_lt, number_one, kid_named, from_order}
 use Rattle.written.specs.Nub.{has, has_append, nub, nub_has, nub_onto, nub_onto_keeps, nub_onto_append}
-use Rattle.written.specs.RepLaws.{among_append, names_told, root_told, rep_lt}
+use Rattle.written.proofs.RepLaws.{among_append, names_told, root_told, rep_lt}
 use Rattle.written.specs.Shape.{whole}
 use Rattle.written.specs.Upto.{spoken_upto}
-use Rattle.written.specs.UptoLaws.{spoken_split, spoken_all, spoken_scalar, spoken_arr, spoken_dic, spoken_end, box_new}
+use Rattle.written.proofs.UptoLaws.{spoken_split, spoken_all, spoken_scalar, spoken_arr, spoken_dic, spoken_end, box_new}
 use Rattle.written.specs.Weigh.{event_names, rep_of}
 use Rattle.writer.specs.ColumnsLaws.{indexed_set}
 use Rattle.writer.specs.Marks.{Path}

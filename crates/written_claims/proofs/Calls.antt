@@ -13,7 +13,7 @@ use Rattle.reader.specs.declared.answer.Stepped.{Stepped}
 use Rattle.reader.specs.declared.state.Reader.{Reader}
 use Rattle.written.specs.File.{file_for}
 use Rattle.written_claims.specs.Accepted.{Accepted}
-use Rattle.written_claims.specs.ReadBack.{said_of, said_back}
+use Rattle.written_claims.proofs.ReadBack.{said_of, said_back}
 
 pub next_back : (ms : List Meaning) → Accepted ms → (first : Reader) → Fresh first → (m : ℕ) (ss : List Stepped) → length ss ≡ length ms + m → Calls (file_for ms) first ss
     → map (λ (s : Stepped). said s.answer) ss ≡ said_of ms ++ replicate m ended

@@ -9,7 +9,7 @@ use Rattle.transcribe.specs.Run.{run}
 use Rattle.transcribe.specs.Said.{end_said}
 use Rattle.transcribe.proofs.transcribe.Kinds as kinds
 use Rattle.transcribe.proofs.transcribe.Reads as reads
-use Rattle.written_claims.specs.Good.{Good}
+use Rattle.written_claims.proofs.Good.{Good}
 use Rattle.written_claims.specs.Outcome.{outcome_of, ComesTo}
 
 pub transcribe_ends : (κs : Lfts 3) (a : Dens κs kinds.ps) (x : (res_t kinds.r κs).Denot) (e : AtExit (ended_of 3 kinds.ps kinds.r) κs)

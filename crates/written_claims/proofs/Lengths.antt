@@ -8,7 +8,7 @@ use Rattle.writer.specs.Write.{written_said}
 use Rattle.writer.proofs.write_file.Kinds as write-file-kinds
 use Rattle.writer.proofs.write_file.Reads as write-file-reads
 use Rattle.written_claims.specs.Lengths.{LengthsApart, Answers}
-use Rattle.written_claims.specs.LengthsLaws.{lengths_apart}
+use Rattle.written_claims.proofs.LengthsLaws.{lengths_apart}
 
 pub write_file_lengths :
     (κs : Lfts 3) (a : Dens κs write-file-kinds.ps) (x : (res_t write-file-kinds.r κs).Denot) (e : AtExit (ended_of 3 write-file-kinds.ps write-file-kinds.r) κs)

@@ -25,9 +25,9 @@ use Rattle.writer.proofs.write_file.Kinds as write-file-kinds
 use Rattle.writer.proofs.write_file.Reads as write-file-reads
 use Rattle.written_claims.specs.Accepted.{Accepted}
 use Rattle.written_claims.specs.Filled.{filled}
-use Rattle.written_claims.specs.Good.{Good, good}
+use Rattle.written_claims.proofs.Good.{Good, good}
 use Rattle.written_claims.specs.Outcome.{Enough, Holds}
-use Rattle.written_claims.specs.Same.{same_file}
+use Rattle.written_claims.proofs.Same.{same_file}
 use Rattle.written_claims.specs.Writes.{Writes, accepts}
 
 -- the front of an output is the file of a tape's events, and nothing behind it has changed

@@ -22,11 +22,11 @@ use Rattle.reader.specs.Next.{next_of}
 use Rattle.reader.specs.NextLaws.{next_ended}
 use Rattle.reader.specs.State.{max_open, ended_reader, moved}
 use Rattle.written.specs.Graph.{Scalar, Kind, arr, dic, Piece, start, Name, val, box, kids, evens, odds, order, number, body_of, object_of, scalar, end}
-use Rattle.written.specs.NameLaws.{In, drop_lt, drop_next, drop_get_d, drop_done, get_d_map_lt, length_evens, in_drop, in_turn_law}
-use Rattle.written.specs.NumberLaws.{number_one, kid_named, root_named, root_number}
+use Rattle.written.proofs.NameLaws.{In, drop_lt, drop_next, drop_get_d, drop_done, get_d_map_lt, length_evens, in_drop, in_turn_law}
+use Rattle.written.proofs.NumberLaws.{number_one, kid_named, root_named, root_number}
 use Rattle.written.specs.Shape.{inside, Due, later, takes, opens, closes, fits, whole}
 use Rattle.written.specs.Weigh.{counted}
-use Rattle.written.specs.WholeLaws.{Parity, passed, parity}
+use Rattle.written.proofs.WholeLaws.{Parity, passed, parity}
 use Rattle.written_claims.specs.Filled.{shape_of, event_in, origin_of, said_from}
 use Rattle.written_claims.specs.Shown.{Shown}
 use Rattle.written_claims.specs.Writable.{box_in}

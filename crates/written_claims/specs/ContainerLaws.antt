@@ -24,7 +24,7 @@ use Rattle.written_claims.specs.HeadLaws.{kind_nibble, behind, headed}
 use Rattle.written_claims.specs.NumbersLaws.{numbers_read}
 use Rattle.written_claims.specs.Stands.{Stands, Whole}
 use Rattle.written.specs.Encoding.{numbers_bytes, nibble_of, head_bytes, list, pairs, object_bytes}
-use Rattle.written.specs.FileLaws.{length_numbers}
+use Rattle.written.proofs.FileLaws.{length_numbers}
 
 -- what is due among references that stand from a place of the file on: the reference at the position's place, then the end
 module _ (file : List ℕ) (refs : Width) (offset start : ℕ) (rs : List ℕ) (good : Below (256 ^ bytes_in refs) rs) (st : Stands file start (numbers_bytes (bytes_in refs) rs)) where

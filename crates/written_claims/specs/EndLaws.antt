@@ -26,7 +26,7 @@ use Rattle.object.specs.declared.kind.Kind.{Kind}
 use Rattle.object.specs.declared.kind.Kind.TheVariants as kind
 use Rattle.tape.specs.Code.{allowed, OnTape}
 use Rattle.written.specs.Encoding.{size_marker, number_bytes, integer_bytes, nibble_of, head_bytes, text_bytes, scalar_bytes, numbers_bytes, Object, lone, list, pairs, object_bytes}
-use Rattle.written.specs.FileLaws.{length_numbers}
+use Rattle.written.proofs.FileLaws.{length_numbers}
 use Rattle.written.specs.Scalar.{IsScalar}
 use Rattle.object.specs.End.{behind_all, end_by, end_at}
 use Rattle.written_claims.specs.End.{nibble_in, nibble_at, LengthByte}

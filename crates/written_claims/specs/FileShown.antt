@@ -11,12 +11,12 @@ use Rattle.event.specs.Format.{max_open}
 use Rattle.layout.specs.Layout.{source_of}
 use Rattle.written.specs.Encoding.{head_bytes, numbers_bytes, object_bytes}
 use Rattle.written.specs.File.{ref_size, bytes_at, place_of, file_of}
-use Rattle.written.specs.FileLaws.{length_numbers}
+use Rattle.written.proofs.FileLaws.{length_numbers}
 use Rattle.written.specs.Graph.{arr, dic, Piece, scalar, start, end, Name, val, box, kids, evens, odds, order, number, body_of, object_of}
-use Rattle.written.specs.NameLaws.{In, length_evens, length_odds}
-use Rattle.written.specs.NumberLaws.{number_lt, kid_named}
-use Rattle.written.specs.CountLaws.{times_in, times_halves, in_times, in_evens}
-use Rattle.written.specs.WholeLaws.{whole_parity}
+use Rattle.written.proofs.NameLaws.{In, length_evens, length_odds}
+use Rattle.written.proofs.NumberLaws.{number_lt, kid_named}
+use Rattle.written.proofs.CountLaws.{times_in, times_halves, in_times, in_evens}
+use Rattle.written.proofs.WholeLaws.{whole_parity}
 use Rattle.written_claims.specs.Laid.{layout_of, refs_size, object_there, object_whole, few, near, entry}
 use Rattle.written_claims.specs.ObjectLaws.{object_shown}
 use Rattle.written_claims.specs.Shown.{Fine, Shown}

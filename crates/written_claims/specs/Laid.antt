@@ -13,14 +13,14 @@ use Rattle.layout.specs.Layout.{entry_at}
 use Rattle.layout.specs.Trailer.{lays, trailer_of}
 use Rattle.layout.specs.declared.layout.Entry.TheVariants.{Of}
 use Rattle.layout.specs.declared.layout.Layout.{Layout}
-use Rattle.written.specs.EmissionLaws.{numbered_written}
+use Rattle.written.proofs.EmissionLaws.{numbered_written}
 use Rattle.written.specs.Encoding.{trailer_bytes}
 use Rattle.written.specs.File.{flat, ahead, ref_size, bytes_at, body, place_of, table_at, offset_size, table, file_of}
-use Rattle.written.specs.FileLaws.{length_table, file_length}
-use Rattle.written.specs.FlatLaws.{flat_at}
+use Rattle.written.proofs.FileLaws.{length_table, file_length}
+use Rattle.written.proofs.FlatLaws.{flat_at}
 use Rattle.written.specs.Graph.{Piece, Name, order, number, emission}
-use Rattle.written.specs.NameLaws.{In, get_d_map_lt}
-use Rattle.written.specs.NumberLaws.{number_lt, order_at}
+use Rattle.written.proofs.NameLaws.{In, get_d_map_lt}
+use Rattle.written.proofs.NumberLaws.{number_lt, order_at}
 use Rattle.written_claims.specs.LookLaws.{table_reads}
 use Rattle.written_claims.specs.Stands.{Stands, Whole, stands_between, stands_last}
 use Rattle.written_claims.specs.TrailerLaws.{begins_front, length_magic, trailer_reads}

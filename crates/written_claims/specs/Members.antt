@@ -5,13 +5,13 @@ use Rattle.std.proofs.Common.{◌∙◌, inl, inr}
 use Rattle.std.proofs.Math.Bool.{true, false, cond}
 use Rattle.std.proofs.lemmas.Bool.{false≢true}
 use mathlib.Core.List.{List, [], ◌∷◌}
-use Rattle.written.specs.CountLaws.{out_laid}
+use Rattle.written.proofs.CountLaws.{out_laid}
 use Rattle.written.specs.Graph.{Kind, Piece, scalar, start, end, Name, val, box, same, kids, laid, names, order, number}
-use Rattle.written.specs.NameLaws.{In, in_append, same_sound, drop_next}
+use Rattle.written.proofs.NameLaws.{In, in_append, same_sound, drop_next}
 use Rattle.written.specs.Nub.{has}
-use Rattle.written.specs.NumberLaws.{kid_named, root_number, from_order}
+use Rattle.written.proofs.NumberLaws.{kid_named, root_number, from_order}
 use Rattle.written.specs.Shape.{whole}
-use Rattle.written.specs.WholeLaws.{root_only}
+use Rattle.written.proofs.WholeLaws.{root_only}
 
 -- the members of the container that begins at event p
 unfoldable pub members_at : ℕ → List Piece → List Name

@@ -19,7 +19,7 @@ use Rattle.layout.specs.declared.layout.Entry.TheVariants.{Of}
 use Rattle.layout.specs.declared.layout.Layout.{Layout}
 use Rattle.reader.specs.Meanings.{bytes_asked, meaning_at}
 use Rattle.written.specs.Encoding.{Object, lone, list, pairs, object_bytes}
-use Rattle.written.specs.EncodingLaws.{head_pos, scalar_pos}
+use Rattle.written.proofs.EncodingLaws.{head_pos, scalar_pos}
 use Rattle.written_claims.specs.ContainerLaws.{ArrayReads, array_reads, DictionaryReads, dictionary_reads}
 use Rattle.written_claims.specs.LookLaws.{look_there, due_there}
 use Rattle.written_claims.specs.ScalarLaws.{Says, Reads, scalar_reads}

@@ -3,15 +3,15 @@ use Rattle.std.specs.Prelude.{◌≡◌, refl, Bool, true, cond, List, ◌∷◌
 use Rattle.std.proofs.Common.{sym, ap, ◌∙◌, append_assoc, zero-add, arith, ltb-true, ltb-false, drop-drop}
 use Rattle.std.proofs.Math.Bool.{false}
 use Rattle.std.proofs.lemmas.Bool.{false≢true}
-use Rattle.written.specs.CountLaws.{times, times_append, times_in, times_out, in_times, out_times, times_laid}
+use Rattle.written.proofs.CountLaws.{times, times_append, times_in, times_out, in_times, out_times, times_laid}
 use Rattle.written.specs.Graph.{Kind, Piece, start, Name, box, same, kids, laid, names, order, number}
-use Rattle.written.specs.NameLaws.{In, same_sound, same_refl, drop_next, kids_in_names}
+use Rattle.written.proofs.NameLaws.{In, same_sound, same_refl, drop_next, kids_in_names}
 use Rattle.written.specs.Nub.{has, nub_before}
-use Rattle.written.specs.NumberLaws.{in_order, from_order}
-use Rattle.written.specs.OnceLaws.{starts, starts_all, kids_low, names_low, all_once, named_once}
+use Rattle.written.proofs.NumberLaws.{in_order, from_order}
+use Rattle.written.proofs.OnceLaws.{starts, starts_all, kids_low, names_low, all_once, named_once}
 use Rattle.written.specs.Shape.{whole}
 use Rattle.written.specs.Upto.{names_upto}
-use Rattle.written.specs.UptoLaws.{names_parts}
+use Rattle.written.proofs.UptoLaws.{names_parts}
 use Rattle.written_claims.specs.Members.{members_of, Parent, own_parent, parent_own}
 
 module _ (top : ℕ) (all : List Piece) (w : whole top all ≡ true) where

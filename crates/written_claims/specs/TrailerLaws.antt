@@ -14,7 +14,7 @@ use Rattle.layout.specs.Trailer.{lays, begins, eight_at, table_of, ref_size_of, 
 use Rattle.layout.specs.declared.layout.Layout.{Layout}
 use Rattle.written_claims.specs.Stands.{Stands, stands_front, stands_back, stands_byte, stands_inside, stands_number}
 use Rattle.written.specs.Encoding.{trailer_bytes}
-use Rattle.written.specs.FileLaws.{length_trailer}
+use Rattle.written.proofs.FileLaws.{length_trailer}
 
 -- a list begins with what is put in front of others
 pub begins_front : (s t : List ℕ) → begins s (s ++ t) ≡ true

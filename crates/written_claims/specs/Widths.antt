@@ -10,7 +10,7 @@ use Rattle.number.specs.declared.width.Width.TheVariants.{One, Two, Three, Four,
 use Rattle.number.specs.declared.width.Width.{Width}
 use Rattle.utf.specs.Bounds.{Below}
 use Rattle.written.specs.Graph.{Name}
-use Rattle.written.specs.NameLaws.{In, in_here, in_there}
+use Rattle.written.proofs.NameLaws.{In, in_here, in_there}
 
 unfoldable pub as_width : Size → Width
 as_width (Allowed w) = w

@@ -8,12 +8,12 @@ use Rattle.tape.specs.Code.{bytes_for, OnTape}
 use Rattle.tape.specs.CodeLaws.{reads_back}
 use Rattle.tape.specs.EventsLaws.{AllOnTape}
 use Rattle.tape.specs.Item.{event, read_at}
-use Rattle.written.specs.CountLaws.{out_laid}
+use Rattle.written.proofs.CountLaws.{out_laid}
 use Rattle.written.specs.File.{file_of}
 use Rattle.written.specs.Graph.{Scalar, Piece, scalar, start, end, piece_of, Name, val, box, same, kids, laid, names, order, meaning_in, meant}
-use Rattle.written.specs.NameLaws.{In, in_append, same_sound}
+use Rattle.written.proofs.NameLaws.{In, in_append, same_sound}
 use Rattle.written.specs.Nub.{has}
-use Rattle.written.specs.NumberLaws.{from_order}
+use Rattle.written.proofs.NumberLaws.{from_order}
 use Rattle.written.specs.Scalar.{IsScalar}
 use Rattle.written.specs.Shape.{whole}
 

@@ -1,6 +1,6 @@
 -- Two parts of one length are compared from the last byte back: those from i on agree.
 use Rattle.std.proofs.Common.{◌≡◌, ℕ, ◌-◌, ◌≤◌, List, length, get_or, sym, ap, arith, ext_get_or}
-use Rattle.written.specs.NameLaws.{bytes_refl}
+use Rattle.written.proofs.NameLaws.{bytes_refl}
 use Rattle.writer.specs.AlikeLaws.{bytes_other, Agree, agree_more}
 use Rattle.writer.proofs.alike.same_few.Statement.{statement}
 use Rattle.writer.proofs.alike.same_few.Tie as tie

@@ -2,7 +2,7 @@
 use Rattle.std.proofs.Common.{◌≡◌, ℕ, ◌*◌, length, sym, ap, ◌∙◌, ap₂, arith, rules}
 use Rattle.number.specs.Size.{size_of}
 use Rattle.written.specs.File.{offset_size}
-use Rattle.written.specs.FileLaws.{file_length, order_few}
+use Rattle.written.proofs.FileLaws.{file_length, order_few}
 use Rattle.writer.specs.NumberedLaws.{numbered_count}
 use Rattle.writer.specs.PutLaws.{file_written, table_end, table_behind, offset_is, offset_le, ref_le}
 use Rattle.writer.specs.Ready.{pieces_in}

@@ -1,0 +1,16 @@
+pub mod CountLaws
+pub mod EmissionLaws
+pub mod EncodingLaws
+pub mod Examples
+pub mod FileLaws
+pub mod FirstLaws
+pub mod FlatLaws
+pub mod GivenLaws
+pub mod NameLaws
+pub mod NumberLaws
+pub mod OnceLaws
+pub mod RepLaws
+pub mod ShapeLaws
+pub mod UptoLaws
+pub mod WeighLaws
+pub mod WholeLaws
