@@ -1,5 +1,5 @@
 -- A transcript holds what the reader's answers mean, in order, and ends as the next answer says.
-use Rattle.std.specs.Prelude.{Bool, ◌⊎◌, ◌≡◌, ltb, take}
+use Rattle.std.specs.Prelude.{Bool, ◌⊎◌, ◌≡◌, take}
 use Rattle.std.proofs.Math.Bool.{true, false}
 use Rattle.std.proofs.Common.{true≢false, inl, inr, ap, ◌∙◌, zero-add, add-zero, length-drop, take_at, drop_at}
 use mathlib.Core.List.{List, [], ◌∷◌, ◌++◌, map}
@@ -27,7 +27,7 @@ use Rattle.reader.specs.Meanings as meanings
 use Rattle.reader.specs.Next.{next_of}
 use Rattle.reader.specs.Refusals.{not_step_16, not_step_27}
 use Rattle.reader.specs.Request.{length_said, scratch_after, part_said}
-use Rattle.reader.specs.State.{max_length, fresh_reader}
+use Rattle.reader.specs.State.{fresh_reader}
 use Rattle.reader.specs.declared.state.Reader.{Reader}
 use Rattle.tape.specs.Append.{put_of, put_to, fits, append_of, append_to}
 use Rattle.utf.proofs.Writing.{sets_append}

@@ -4,7 +4,6 @@ use mathlib.Core.List.{List}
 use mathlib.Core.Path.{◌≡◌, refl, sym, ap, ◌∙◌}
 use Prim.Native.Nat.{ℕ, ◌+◌, ◌-◌, ◌≤◌}
 use native.Mathlib.Omega.{arith}
-use borrow.Author.Rules.{rules}
 use borrow.Author.Tests.{ltb-false}
 use lib.Dec.{ltb}
 use lib.ListN.{length, take, drop}
@@ -90,7 +89,9 @@ returns c =
     let g = c.groups-count_end in
     let h = c.groups-length_end in
     let n : g.result - 1 ≡ length (count c.before.before.before.before.before.before.before.before.before.before.before.before.before.before.before.before.before.before.before.before.before) = omega (arith, c.groups-count_end.ensures.value) in
-    let o : h.result - 1 ≡ length (measure c.before.before.before.before.before.before.before.before.before.before.before.before.before.before.before.before.before.before.before.before.before) = omega (arith, c.groups-length_end.ensures.value) in (record { value = ap Held (sum c.before.before.before.before.before.before.before.before.before.before.before.before.before.before.before.before.before.before.before.before.before) ∙ grow_held m c.args.held c.args.first (up c.before.before.before.before.before.before.before.before.before.before.before.before.before.before.before.before.before.before.before.before.before) (count c.before.before.before.before.before.before.before.before.before.before.before.before.before.before.before.before.before.before.before.before.before) (measure c.before.before.before.before.before.before.before.before.before.before.before.before.before.before.before.before.before.before.before.before.before) c.args.key.now c.requires.within c.requires.inside (is_up c.before.before.before.before.before.before.before.before.before.before.before.before.before.before.before.before.before.before.before.before.before) (fits c.before.before.before.before.before.before.before.before.before.before.before.before.before.before.before.before.before.before.before); path_after = grow_all m c.args.held c.args.first (up c.before.before.before.before.before.before.before.before.before.before.before.before.before.before.before.before.before.before.before.before.before) (count c.before.before.before.before.before.before.before.before.before.before.before.before.before.before.before.before.before.before.before.before.before) (measure c.before.before.before.before.before.before.before.before.before.before.before.before.before.before.before.before.before.before.before.before.before) c.args.key.now c.requires.within c.requires.inside (is_up c.before.before.before.before.before.before.before.before.before.before.before.before.before.before.before.before.before.before.before.before.before) (fits c.before.before.before.before.before.before.before.before.before.before.before.before.before.before.before.before.before.before.before) _ _ _ _ _ _ _ _
+    let o : h.result - 1 ≡ length (measure c.before.before.before.before.before.before.before.before.before.before.before.before.before.before.before.before.before.before.before.before.before) = omega (arith, c.groups-length_end.ensures.value) in (record {
+      value = ap Held (sum c.before.before.before.before.before.before.before.before.before.before.before.before.before.before.before.before.before.before.before.before.before) ∙ grow_held m c.args.held c.args.first (up c.before.before.before.before.before.before.before.before.before.before.before.before.before.before.before.before.before.before.before.before.before) (count c.before.before.before.before.before.before.before.before.before.before.before.before.before.before.before.before.before.before.before.before.before) (measure c.before.before.before.before.before.before.before.before.before.before.before.before.before.before.before.before.before.before.before.before.before) c.args.key.now c.requires.within c.requires.inside (is_up c.before.before.before.before.before.before.before.before.before.before.before.before.before.before.before.before.before.before.before.before.before) (fits c.before.before.before.before.before.before.before.before.before.before.before.before.before.before.before.before.before.before.before);
+      path_after = grow_all m c.args.held c.args.first (up c.before.before.before.before.before.before.before.before.before.before.before.before.before.before.before.before.before.before.before.before.before) (count c.before.before.before.before.before.before.before.before.before.before.before.before.before.before.before.before.before.before.before.before.before) (measure c.before.before.before.before.before.before.before.before.before.before.before.before.before.before.before.before.before.before.before.before.before) c.args.key.now c.requires.within c.requires.inside (is_up c.before.before.before.before.before.before.before.before.before.before.before.before.before.before.before.before.before.before.before.before.before) (fits c.before.before.before.before.before.before.before.before.before.before.before.before.before.before.before.before.before.before.before) _ _ _ _ _ _ _ _
           c.move_up.ensures
           c.write_bytes.ensures
           (ap (λ (k : ℕ). take k (drop 1 g.new.memory)) n ∙ c.groups-count_end.ensures.n_after)
@@ -98,4 +99,5 @@ returns c =
           refl
           (ap (λ (k : ℕ). take k (drop 1 h.new.memory)) o ∙ c.groups-length_end.ensures.n_after)
           c.write_bytes-3.ensures
-          (is_start c.before.before.before.before.before.before.before.before.before.before.before.before.before.before.before.before.before.before.before.before.before) })
+          (is_start c.before.before.before.before.before.before.before.before.before.before.before.before.before.before.before.before.before.before.before.before.before);
+    })

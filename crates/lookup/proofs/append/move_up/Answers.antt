@@ -1,9 +1,7 @@
 -- `move_up`: every turn moves one byte more, the last first.
-use mathlib.Core.Path.{◌≡◌, refl}
-use Prim.Native.Nat.{◌+◌, ◌≤◌}
+use mathlib.Core.Path.{refl}
 use native.Mathlib.Omega.{arith}
-use lib.ListN.{length, length-set}
-use Rattle.lookup.specs.Append.{moved}
+use lib.ListN.{length-set}
 use Rattle.lookup.proofs.Growing.{move_none, move_next, move_done}
 use Rattle.lookup.proofs.append.move_up.Goals as goal
 

@@ -1,10 +1,8 @@
 -- `move_up`: every turn moves one byte more, the last first.
-use mathlib.Core.Path.{◌≡◌, refl}
+use mathlib.Core.Path.{◌≡◌}
 use Prim.Native.Nat.{◌+◌, ◌≤◌}
-use native.Mathlib.Omega.{arith}
-use lib.ListN.{length, length-set}
+use lib.ListN.{length}
 use Rattle.lookup.specs.Append.{moved}
-use Rattle.lookup.proofs.Growing.{move_none, move_next, move_done}
 use Rattle.lookup.proofs.append.move_up.Given as goal
 
 abbrev pub invariant-loop-i : goal.invariant-loop-i

@@ -2,7 +2,6 @@
 use mathlib.Core.Path.{◌≡◌, sym, ap, ◌∙◌}
 use Prim.Native.Nat.{ℕ}
 use native.Mathlib.Omega.{arith}
-use borrow.Author.Rules.{rules}
 use Rattle.number.specs.BeLaws.{bytes_of_law}
 use Rattle.grammar.specs.Check.{check_of}
 use Rattle.grammar.specs.Said.{whole, refused_at, checked_said}

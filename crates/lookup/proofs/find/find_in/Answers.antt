@@ -1,6 +1,5 @@
 -- `find_in`: the path is judged, then gone along.
 use mathlib.Core.Path.{sym, ◌∙◌}
-use borrow.Author.Rules.{rules}
 use Rattle.lookup.specs.Find.{found_said}
 use Rattle.lookup.proofs.FindLaws.{by_none, by_count, by_bad}
 use Rattle.lookup.proofs.find.find_in.Goals as goal

@@ -6,7 +6,6 @@ use native.Mathlib.Omega.{arith}
 use lib.ListN.{length}
 use Rattle.lookup.specs.Find.{found_said, find_of, found, part_by, part_of}
 use Rattle.lookup.proofs.FoundLaws.{found_value}
-use borrow.Author.Rules.{rules}
 use Rattle.lookup.proofs.find.find_part.Goals as goal
 use Rattle.lookup.proofs.find.find_part.Lts as lts
 use Rattle.lookup.proofs.find.find_part.Reads as reads
@@ -22,7 +21,7 @@ told : (x : lts.Past-After-known_told tie.the-claims reads.Pre reads.Post tie.ha
 unfolding found_said
 told x = sym x.find.ensures.result_value ∙ ap found_said x.in-Part.is
 
-inside : (x : goal.In-Part) → start_of x + size_of x.before ≤ length x.args.tape.now
+inside : (x : goal.In-Part) → start_of x.before + size_of x.before ≤ length x.args.tape.now
 inside x = (found_value _ _ x.find.ensures.bytes _ _ (told x.before)).within
 
 pub overflow_add-end : goal.overflow_add-end

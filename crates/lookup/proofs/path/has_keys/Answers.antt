@@ -2,8 +2,7 @@
 use mathlib.Core.Path.{◌≡◌, refl, sym, ◌∙◌}
 use Prim.Native.Nat.{ℕ}
 use native.Mathlib.Omega.{arith}
-use borrow.Author.Rules.{rules}
-use Rattle.lookup.specs.Path.{is_some, keys_from, key_at}
+use Rattle.lookup.specs.Path.{key_at}
 use Rattle.lookup.specs.PathLaws.{key_room, some_next, some_stop, some_end}
 use Rattle.lookup.specs.declared.path.Key.TheVariants.{Of}
 use Rattle.lookup.proofs.path.has_keys.Goals as goal

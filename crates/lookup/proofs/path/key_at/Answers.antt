@@ -1,6 +1,5 @@
 -- `key_at`: a length, and so many bytes.
 use mathlib.Core.Path.{sym, ◌∙◌}
-use borrow.Author.Rules.{rules}
 use Rattle.lookup.specs.Path.{key_in, key_at}
 use Rattle.lookup.specs.PathLaws.{key_is, key_not}
 use Rattle.lookup.proofs.path.key_at.Goals as goal

@@ -1,6 +1,5 @@
 -- `deeper`: an end leaves the container that is open, if any is.
 use native.Mathlib.Omega.{arith}
-use borrow.Author.Rules.{rules}
 use borrow.Author.Tests.{lt-ltb, le-ltb}
 use Rattle.lookup.specs.Rest.{deeper_by}
 use Rattle.lookup.proofs.seek.deeper.Goals as goal

@@ -1,5 +1,4 @@
 -- Where an event stands, the place is where it ends.
-use borrow.Author.Rules.{rules}
 use Rattle.lookup.proofs.Walking.{after_at, after_none}
 use Rattle.lookup.proofs.seek.place_after.Goals as goal
 

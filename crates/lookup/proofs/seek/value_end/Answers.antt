@@ -1,9 +1,6 @@
 -- `value_end`: every turn takes one event of the value.
-use Prim.Native.Nat.{◌-◌}
 use native.Mathlib.Omega.{arith}
-use borrow.Author.Rules.{rules}
-use lib.ListN.{length}
-use Rattle.lookup.proofs.Walking.{Walk, walk_first, walk_over, walk_on, walk_end, walk_again}
+use Rattle.lookup.proofs.Walking.{walk_first, walk_over, walk_on, walk_end, walk_again}
 use Rattle.lookup.proofs.seek.value_end.Goals as goal
 
 pub loop-at-init : goal.loop-at-init

@@ -1,6 +1,5 @@
 -- `value_under`: the kind tells whether it is a dictionary.
 use native.Mathlib.Omega.{arith}
-use borrow.Author.Rules.{rules}
 use Rattle.lookup.proofs.Seeking.{into_past, into_none, into_rest, into_pairs}
 use Rattle.lookup.proofs.seek.value_under.Goals as goal
 
