@@ -11,6 +11,7 @@ use Rattle.number.specs.BeLaws.{bytes_of_law}
 use Rattle.number.specs.PartLaws.{length_part}
 use Rattle.tape.specs.StandsLaws.{number_far}
 use Rattle.encode.specs.Size.{text_size}
+use borrow.Author.Rules.{rules}
 use Rattle.encode.proofs.size.text_size.Goals as goal
 use Rattle.encode.proofs.size.text_size.Lts as lts
 use Rattle.encode.proofs.size.text_size.Reads as reads
@@ -32,7 +33,7 @@ room c = ltb-false _ _ (sym c.lacks_room.ensures ∙ c.if-lacks_room.false)
 far : (c : lts.Else1 tie.the-claims reads.Pre reads.Post) → 2 ^ 62 ≤ c.in-Of.n → 5 ≤ c.in-Of.start
 far c h =
     let a = c.args in
-    let good = bytes_of_law a.tape.now (λ (i : ℕ). omega (arith, c.shared_slice_known-1.given i)) in
+    let good = bytes_of_law a.tape.now (search rules) in
     number_far a.tape.now a.at _ _ good (sym c.number_at.ensures ∙ c.in-Of.is) h
 
 short : (c : lts.Else1 tie.the-claims reads.Pre reads.Post) → c.in-Of.n + 5 < 2 ^ 63
