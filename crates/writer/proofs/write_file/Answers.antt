@@ -1,6 +1,6 @@
 -- `write_file`: what the check says, then whether the words are enough, then what `write_events` answers of the part that it is lent.
 use Rattle.std.proofs.Common.{◌≡◌, ℕ, ◌*◌, ◌≤◌, List, length, sym, refl, ap, ◌∙◌, arith, rules, length-take-le, drop_at}
-use Rattle.number.specs.BeLaws.{Bytes, bytes_of_law}
+use Rattle.number.specs.BeLaws.{bytes_of_law}
 use Rattle.grammar.specs.Check.{check_of}
 use Rattle.grammar.specs.Said.{whole, checked_said}
 use Rattle.grammar.specs.declared.answer.Checked.{Checked}

@@ -1,13 +1,11 @@
 -- `size_of`: the kind decides, and each class of kinds has a function of its own.
-use mathlib.Core.Logic.{◌⊎◌, inl, inr}
-use mathlib.Core.Path.{◌≡◌, refl, ap, sym, ◌∙◌}
-use Prim.Native.Nat.{◌≤◌, ◌<◌}
+use mathlib.Core.Logic.{inl, inr}
+use mathlib.Core.Path.{refl, ap, sym, ◌∙◌}
 use native.Mathlib.Omega.{arith}
-use lib.ListN.{length, get_or}
+use lib.ListN.{length}
 use Rattle.encode.specs.Said.{size_said}
-use Rattle.encode.specs.Size.{integer_size, uid_size, data_size, size_behind, size_at}
+use Rattle.encode.specs.Size.{integer_size, uid_size, data_size, size_behind}
 use Rattle.encode.specs.SizeLaws.{size_of, size_past, behind_one, behind_nine, behind_none}
-use Rattle.encode.specs.declared.size.Sized.TheVariants.{NoScalar}
 use Rattle.encode.proofs.unchecked.size_of.Goals as goal
 
 pub returns-then-tape-at : goal.returns-then-tape-at
