@@ -11,9 +11,6 @@ use Rattle.encode.proofs.unchecked.size_of.Goals as goal
 pub returns-then-tape-at : goal.returns-then-tape-at
 returns-then-tape-at c = ap (size_said _) (sym (size_past _ _ c.if-tape-at.true))
 
-pub data_size-requires : goal.data_size-requires
-data_size-requires c = omega (arith, c.well_formed.0.1)
-
 pub returns-in-3 : goal.returns-in-3
 unfolding size_behind
 returns-in-3 c = ap (size_said _) (c.integer_size.ensures ∙ ap integer_size c.number_at.ensures ∙ sym (size_of _ _ _ c.if-tape-at.false c.in-3.is))

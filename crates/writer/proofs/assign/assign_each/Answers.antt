@@ -9,9 +9,6 @@ loop-i-init c =
     let p = c.requires in
     walk_start p.1.0 p.0 p.1.1 p.1.2
 
-pub overflow_mul-n : goal.overflow_mul-n
-overflow_mul-n c = omega arith
-
 pub overflow_add-n : goal.overflow_add-n
 overflow_add-n c = let t = walk_turn c.loop-i.invariant c.loop-i-test.true in omega (arith, t.paired, t.sided)
 
@@ -29,9 +26,6 @@ mark-k-requires c =
     let o = c.loop-i.invariant in
     let t = walk_turn o c.loop-i-test.true in
     (rw c.word.ensures.0 (omega (arith, t.under, o.long)), omega (arith, o.few, ap length t.left_is))
-
-pub overflow_add-n-in-loop-i-3 : goal.overflow_add-n-in-loop-i-3
-overflow_add-n-in-loop-i-3 c = omega arith
 
 pub overflow_add-n-in-loop-i-4 : goal.overflow_add-n-in-loop-i-4
 overflow_add-n-in-loop-i-4 c = let t = walk_turn c.loop-i.invariant c.loop-i-test.true in omega (arith, t.paired)

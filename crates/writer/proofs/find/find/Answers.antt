@@ -21,9 +21,6 @@ loop-met-init c =
     let bucket = c.bucket_of in
     search_start c.requires hash.result bucket.result c.word-met.result hash.ensures.0 bucket.ensures.0 bucket.ensures.1 c.word-met.ensures.0
 
-pub overflow_sub-r : goal.overflow_sub-r
-overflow_sub-r c = omega arith
-
 pub is_same-requires : goal.is_same-requires
 is_same-requires c = met_within c.requires c.loop-met.invariant c.loop-met-test.true
 

@@ -8,9 +8,6 @@ use Rattle.writer.proofs.measure.measure.Goals as goal
 pub loop-e-init : goal.loop-e-init
 loop-e-init c = summed_none c.requires.0 c.args.work.now c.requires.1
 
-pub overflow_sub-e : goal.overflow_sub-e
-overflow_sub-e c = omega arith
-
 pub measure_event-sums-requires : goal.measure_event-sums-requires
 measure_event-sums-requires c =
     let s = summed_back c.loop-e.invariant c.loop-e-test.true in
@@ -30,9 +27,6 @@ overflow_add-members c =
     let k = c.measure_event-sums.ensures in
     let s = summed_more o (summed_back c.loop-e.invariant c.loop-e-test.true) k.measured k.weighs in
     omega (arith, s.count, members_le o (c.loop-e.e - 1), ready_small o)
-
-pub loop-e-smaller : goal.loop-e-smaller
-loop-e-smaller c = omega arith
 
 pub loop-e-preserved : goal.loop-e-preserved
 loop-e-preserved c =

@@ -7,9 +7,6 @@ pub loop-i-init : goal.loop-i-init
 loop-i-init c =
     λ ks e. record { left = ks; way = e.refs; rest = rest_start c.args.out.now c.args.from c.args.width ks }
 
-pub overflow_mul-n : goal.overflow_mul-n
-overflow_mul-n c = omega (arith, c.requires.1.long)
-
 pub overflow_add-n : goal.overflow_add-n
 overflow_add-n c = let m = going_met (c.loop-i.invariant _ c.requires.1) c.loop-i-test.true in omega (arith, c.requires.1.long, m.paired)
 
