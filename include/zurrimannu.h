@@ -1,5 +1,6 @@
 /*
- * Binary property lists, read and written by proved functions: the C side of the crates `exports`, `exports_plain`, `exports_find` and `exports_build`.
+ * Binary property lists, read and written by proved functions: those of the crates `exports_c`, `exports_plain_c`, `exports_find_c`, `exports_build_c` and
+ * `exports_xml_c`.
  *
  * The library is target/staticlib/libzurrimannu.a, for x86-64; `./lib` makes it.
  *

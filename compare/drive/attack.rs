@@ -1,7 +1,7 @@
-//! Scalars made by somebody who knows the code of the writer's hash and not its key. See compare/README.md.
+//! Scalars made by somebody who knows the code of a hash and not its key. See compare/README.md.
 //!
-//! The hash here says in Rust what `hashOf` of crates/writer/specs/Alike.antt says; both have the same three known answers. Two ways to make
-//! scalars collide are tried with drawn keys: families of scalars, entered into an index as crates/writer/src/find.rt enters them; and
+//! The hash here is one with a key, which was tried for the writer's index (docs/BENCHMARKS.md). Two ways to make scalars collide are tried
+//! with drawn keys: families of scalars, entered into an index as crates/writer/src/find.rt enters them; and
 //! changes of two or three words of one scalar. The same is tried with a hash whose key is only added to its constants: it must be found
 //! broken, or the attack is too weak to show anything.
 
@@ -34,14 +34,14 @@ fn main() -> ExitCode {
     for (key, bytes, want) in known_answers() {
         assert_eq!(keyed(key, &bytes), want, "a known answer");
     }
-    let ours = try_families("the writer's", keyed, keys) + try_changes(keyed, keys);
+    let ours = try_families("a key that is multiplied", keyed, keys) + try_changes(keyed, keys);
     println!();
     let weak = try_families("a key that is added", added, keys) + try_changes(added, keys);
-    println!("\n{ours} ways to make the writer's hash collide, {weak} for a key that is only added; {keys} keys");
+    println!("\n{ours} ways to make that hash collide, {weak} for a key that is only added; {keys} keys");
     ExitCode::from((ours > 0 || weak == 0) as u8)
 }
 
-/// The examples of crates/writer/specs/Examples.antt.
+/// The known answers of the hash with a key.
 fn known_answers() -> [(u64, Vec<u8>, u32); 3] {
     [
         (0, vec![0x09, 0x01, 0x61], 3_880_021_996),
@@ -90,7 +90,7 @@ fn short(h: u64, s: &[u8]) -> u64 {
     stirred(h, four(s, 0), four(s, s.len() - 4))
 }
 
-/// The writer's: the hash so far stands in what is multiplied, in two lanes.
+/// The one that was tried: the hash so far stands in what is multiplied, in two lanes.
 fn keyed(key: u64, s: &[u8]) -> u32 {
     let mut h = key.wrapping_add(u64::from(C2) << 32 | u64::from(C1));
     if s.len() < 8 {

@@ -80,7 +80,7 @@ struct Known {
     zero: fn(u64) -> u32,
 }
 
-/// A sum of products, as the writer's hash was before it had a key.
+/// A sum of products, the writer's (crates/writer/src/alike.rt).
 const SUM: Known = Known {
     states: [0; 2],
     lanes: 1,
@@ -95,7 +95,7 @@ const SUM: Known = Known {
     zero: |_| 0x9e37_79b1_u32.wrapping_neg(),
 };
 
-/// The writer's (crates/writer/src/alike.rt) where the first two lent words are 0.
+/// The one with a key that was tried (docs/BENCHMARKS.md), where the first two lent words are 0.
 const ZEROS: Known = Known {
     states: [0x85eb_ca77_9e37_79b1, 0x9e37_79b1 * 0x85eb_ca77],
     lanes: 2,

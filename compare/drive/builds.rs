@@ -321,7 +321,7 @@ impl Judge {
             true => self.tape.last(tape.len()),
             false => lent_tape,
         };
-        // The first two words are the key of the writer's hash.
+        // In the first two words a hash with a key would look for it.
         let key = self.random.key();
         let lend = |work: &mut [u32]| {
             work.fill(WORD_FILLING);

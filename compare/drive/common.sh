@@ -1,4 +1,4 @@
-# What compare/reads, compare/plain, compare/writes, compare/guard and compare/bench share; sourced by them. They set `here` and `stop`.
+# What the scripts of compare share that build or run something of the project; sourced by them. They set `here` and `stop`.
 
 target=$here/target
 drive=$here/drive
@@ -21,8 +21,8 @@ find_rustc() {
     stop "no rustc from 1.$least_rustc on (compare/build installs Debian's)"
 }
 
-# The library is for x86-64. On Arm the program is made for it too, with what compare/build
-# installs and unpacks, and run in the emulator.
+# The library and the proved programs are for x86-64. On Arm a program is made for it too, with what
+# compare/build installs and unpacks, and run in the emulator.
 prepare_machine() {
     local root
     case $(uname -m) in
@@ -49,6 +49,17 @@ build_library() {
     mkdir -p "$target"
     "$project/lib" >"$target/library.log" 2>&1 ||
         stop "the library is not proved (see target/library.log)"
+}
+
+# A program of the project that PROJECT names: $1 its name. It is proved and built, and run over its recorded input; where nothing has changed that
+# takes a moment.
+build_replay() {
+    project=$(cd "${PROJECT:-$here/..}" && pwd)
+    program=$project/crates/$1/out/$1
+    command -v rt >/dev/null || stop "no rt on the path"
+    mkdir -p "$target"
+    (cd "$project/crates/$1" && rt run) <"$project/crates/$1/stdin" >"$target/$1.log" 2>&1 && [ -x "$program" ] ||
+        stop "the program is not proved, or not there (see target/$1.log)"
 }
 
 # A Rust program of drive/ with the library and the crate in it: $1 its name.

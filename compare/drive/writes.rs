@@ -97,7 +97,7 @@ fn large(judge: &mut Judge) {
 
 /// The lent memory, what was counted, and the differences.
 struct Judge {
-    /// For the first two words, the key of the writer's hash: what is written doesn't depend on it.
+    /// For the first two words, where a hash with a key would look for it: what is written doesn't depend on them.
     random: Random,
     words: Vec<u32>,
     out: Vec<u8>,

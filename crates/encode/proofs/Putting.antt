@@ -17,35 +17,35 @@ use Rattle.encode.specs.declared.put.Put.TheVariants.{Bytes, NoRoom, NoScalar}
 
 -- bytes s that are put into l: the answer r, with the memory m after it, where they don't fit and where they do
 module _ (l s : List ℕ) where
-  pub none_put : length l < length s → (NoRoom ≡ put_of l s) × (l ≡ put_into l s)
-  none_put h = let p = put_none l s h in (sym p.1, sym p.0)
+  pub none_put : length l < length s → record { value : NoRoom ≡ put_of l s; out_after : l ≡ put_into l s }
+  none_put h = let p = put_none l s h in record { value = sym p.1; out_after = sym p.0 }
 
-  pub all_put : {n : ℕ} {m : List ℕ} → length s ≤ length l → n ≡ length s → m ≡ sets l 0 s → (Bytes n ≡ put_of l s) × (m ≡ put_into l s)
-  all_put h e f = let p = put_room l s h in (ap Bytes e ∙ sym p.1, f ∙ sym p.0)
+  pub all_put : {n : ℕ} {m : List ℕ} → length s ≤ length l → n ≡ length s → m ≡ sets l 0 s → record { value : Bytes n ≡ put_of l s; out_after : m ≡ put_into l s }
+  all_put h e f = let p = put_room l s h in record { value = ap Bytes e ∙ sym p.1; out_after = f ∙ sym p.0 }
 
 -- in the numbers of refusals
-pub said : (at : ℕ) {r x : Put} {m n : List ℕ} → (r ≡ x) × (m ≡ n) → (put_said at r ≡ put_said at x) × (m ≡ n)
-said at p = (ap (put_said at) p.0, p.1)
+pub said : (at : ℕ) {r x : Put} {m n : List ℕ} → record { value : r ≡ x; out_after : m ≡ n } → record { result_value : put_said at r ≡ put_said at x; out_after : m ≡ n }
+said at p = record { result_value = ap (put_said at) p.value; out_after = p.out_after }
 
 -- the same of a scalar's bytes
 abbrev pub Puts : List ℕ → List ℕ → Put → List ℕ → Type 0
-Puts l s r m = (r ≡ scalar_of l s) × (m ≡ put_into l s)
+Puts l s r m = record { value : r ≡ scalar_of l s; out_after : m ≡ put_into l s }
 
 module _ (l : List ℕ) where
   pub nothing : Puts l [] NoScalar l
   unfolding scalar_of
-  nothing = (refl, sym (put_room l [] (omega arith)).0)
+  nothing = record { value = refl; out_after = sym (put_room l [] (omega arith)).0 }
 
   module _ (s : List ℕ) where
     pub refused : length l < length s → Puts l s NoRoom l
-    refused h = let p = none_put l s h in (p.0 ∙ sym (scalar_put l s (omega arith)), p.1)
+    refused h = let p = none_put l s h in record { value = p.value ∙ sym (scalar_put l s (omega arith)); out_after = p.out_after }
 
     pub written : {n : ℕ} {m : List ℕ} → 0 < length s → length s ≤ length l → n ≡ length s → m ≡ sets l 0 s → Puts l s (Bytes n) m
-    written some h e f = let p = all_put l s h e f in (p.0 ∙ sym (scalar_put l s some), p.1)
+    written some h e f = let p = all_put l s h e f in record { value = p.value ∙ sym (scalar_put l s some); out_after = p.out_after }
 
 -- the bytes by another name
 pub renamed : (l : List ℕ) {s t m : List ℕ} {r : Put} → s ≡ t → Puts l s r m → Puts l t r m
-renamed l e p = (p.0 ∙ ap (scalar_of l) e, p.1 ∙ ap (put_into l) e)
+renamed l e p = record { value = p.value ∙ ap (scalar_of l) e; out_after = p.out_after ∙ ap (put_into l) e }
 
 -- what is put in front of bytes that stand already
 pub sets_front : (l s t : List ℕ) → length s + length t ≤ length l → sets (sets l (length s) t) 0 s ≡ sets l 0 (s ++ t)

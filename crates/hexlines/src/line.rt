@@ -1,10 +1,12 @@
 // Lines and words: places in a slice.
-ghost use Rattle.std.specs.Prelude.{◌≤◌, length};
+ghost use Rattle.std.specs.Prelude.{ℕ, ◌≡◌, ◌≢◌, ◌≤◌, ◌<◌, length, slice_index};
 
 // Where a byte next stands from a place on, or the end.
 pub fn next(s: &[u8], from: usize, b: u8) -> usize
     ensures upper_bound { result ≤ length s.now }
     ensures lower_bound { from ≤ length s.now → from ≤ result }
+    ensures found { result < length s.now → slice_index s.now result ≡ b }
+    ensures first { (k : ℕ) → from ≤ k → k < result → slice_index s.now k ≢ b }
 {
     for i in from..s.len() {
         if s[i] == b {

@@ -80,13 +80,7 @@ fn say_count(rt: &impl Print, lines: &[u8]) -> io::Result<()> {
 }
 
 fn newlines(lines: &[u8]) -> u64 {
-    let mut n: u64 = 0;
-    for byte in lines {
-        if *byte == b'\n' {
-            n += 1;
-        }
-    }
-    n
+    lines.iter().filter(|byte| **byte == b'\n').count() as u64
 }
 
 // What stands behind the last newline but one.

@@ -20,7 +20,7 @@ use Rattle.grammar.specs.Turn.{is_nothing, after_of, unless_key, text_turn, turn
 use Rattle.grammar.specs.declared.turn.Due.{Due}
 use Rattle.grammar.specs.declared.turn.Due.TheVariants.{Root, Element, Key, Value, Nothing}
 use Rattle.grammar.specs.declared.turn.Turn.TheVariants.{Pass}
-use Rattle.lookup.specs.Find.{Said, found, not_found, refused, placed, by_path, by_check, find_of, part_by, part_of}
+use Rattle.lookup.specs.Find.{found, not_found, refused, placed, by_path, by_check, find_of, part_by, part_of}
 use Rattle.lookup.proofs.FindLaws.{check_rest}
 use Rattle.lookup.specs.Path.{keys_of}
 use Rattle.lookup.specs.Rest.{Rest}

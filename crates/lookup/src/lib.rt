@@ -1,4 +1,6 @@
 // The value under a list of keys, on a tape that is one whole root.
+#![tactic(auto)]
+
 pub mod answer;
 pub mod append;
 pub mod find;

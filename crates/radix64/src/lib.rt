@@ -1,4 +1,6 @@
 // Base 64, RFC 4648, padded, put into lent memory from a place on: whole, where it fits, else nothing changes.
+#![tactic(auto)]
+
 ghost use Rattle.std.specs.Prelude.{[], ◌∷◌, ◌≡◌, ◌+◌, ◌*◌, ◌/◌, ◌≤◌, ◌<◌, length, drop};
 ghost use Rattle.std.proofs.lemmas.List.Edits.{sets};
 ghost use Rattle.digits.specs.Put.{Written, put_end, put_into};

@@ -48,18 +48,10 @@ fn is_state(line: &[u8]) -> bool {
 fn after(s: &[u8], from: usize) -> usize
     ensures { result ≤ length s.now }
 {
-    let mut i = from;
-    while i < s.len() {
+    for i in from..s.len() {
         let b = s[i];
-        i += 1;
-        if b == b' ' {
-            return i;
-        }
-        if b == b',' {
-            return i;
-        }
-        if b == b':' {
-            return i;
+        if b == b' ' || b == b',' || b == b':' {
+            return i + 1;
         }
     }
     s.len()
@@ -94,8 +86,7 @@ fn state_of(s: &[u8], fresh: usize) -> Reader {
         frames: [Frame::NONE; Reader::MAX_OPEN],
     };
     let mut at = after(s, depth);
-    let mut i: usize = 0;
-    while i < Reader::MAX_OPEN {
+    for i in 0..Reader::MAX_OPEN {
         let position = after(s, at);
         let length = after(s, position);
         let offset = after(s, length);
@@ -106,7 +97,6 @@ fn state_of(s: &[u8], fresh: usize) -> Reader {
             offset: word(s, offset),
         };
         at = after(s, offset);
-        i += 1;
     }
     reader
 }
@@ -175,24 +165,17 @@ fn say_frames<W: Write>(to: &mut W, reader: Reader) -> io::Result<()> {
 fn shown_frames(reader: Reader) -> usize
     ensures { result ≤ max_open }
 {
-    let mut n: usize = Reader::MAX_OPEN;
-    while 0 < n {
-        let frame = reader.frames[n - 1];
-        if frame.object != 0 {
-            return n;
+    let mut shown: usize = 0;
+    for i in 0..Reader::MAX_OPEN {
+        if !is_zero(reader.frames[i]) {
+            shown = i + 1;
         }
-        if frame.position != 0 {
-            return n;
-        }
-        if frame.length != 0 {
-            return n;
-        }
-        if frame.offset != 0 {
-            return n;
-        }
-        n -= 1;
     }
-    0
+    shown
+}
+
+fn is_zero(frame: Frame) -> bool {
+    frame.object == 0 && frame.position == 0 && frame.length == 0 && frame.offset == 0
 }
 
 // A record's fields are the scratch's length, the kind, its value, the number and the offset. The answer, the scratch afterwards, and the part.

@@ -169,13 +169,10 @@ pub(crate) fn say_bytes<W: Write>(to: &mut W, bytes: &[u8]) -> io::Result<()> {
         return Ok(());
     }
     to.write_all(b" ")?;
-    let mut at: usize = 0;
-    while 4096 < bytes.len() - at {
-        let end = at + 4096;
-        say_digits(to, &bytes[at..end])?;
-        at = end;
+    for part in bytes.chunks(4096) {
+        say_digits(to, part)?;
     }
-    say_digits(to, &bytes[at..])
+    Ok(())
 }
 
 // At most 4,096 bytes.

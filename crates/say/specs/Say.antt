@@ -1,5 +1,9 @@
--- The line of a record and of an answer, and what the scratch holds once it is put. docs/FORMAT.md, rules L1, L3, L9 and R30.
-use Rattle.std.specs.Prelude.{Bool, true, false, List, ℕ}
+-- The line of a record and of an answer, what the scratch holds once it is put, and what a writer gets. docs/FORMAT.md, rules L1, L3, L9 and R30.
+use Rattle.std.specs.Prelude.{Bool, true, false, cond, List, [], ℕ, leb, length, take}
+use Rattle.digits.specs.Ascii.{ascii}
+use Rattle.digits.specs.declared.Put.{Put}
+use Rattle.digits.specs.declared.Put.TheVariants.{NoRoom}
+use Rattle.digits.specs.declared.Put.TheVariants.{End as Behind}
 use Rattle.event.specs.Meaning.{meaning_of}
 use Rattle.reader.specs.Said.{number_of}
 use Rattle.line.specs.Line.{refusal_line}
@@ -36,3 +40,12 @@ unfoldable pub answer_scratch : List ℕ → List ℕ → Answer → List ℕ
 answer_scratch file scratch (Handed r) = scratch_after file scratch (asked_of file r)
 answer_scratch file scratch Ended = scratch
 answer_scratch file scratch (Refused refusal place) = scratch
+
+-- what a writer gets of a memory: what stands at its start, as far as the answer says that a line was put there
+unfoldable pub printed : List ℕ → Put → List ℕ
+printed out (Behind end) = cond (leb end (length out)) (take end out) []
+printed out NoRoom = ascii "no room\n"
+
+-- what a writer gets of a line: all of it where the memory has room for it, else that it has none (L1)
+unfoldable pub printed_line : List ℕ → List ℕ → List ℕ
+printed_line out line = cond (leb (length line) (length out)) line (ascii "no room\n")

@@ -1,15 +1,16 @@
 // The reader's answers as lines, put to a writer, and the listing of a whole file. What the lent memories hold afterwards is promised of each
-// function here, whether the writer takes the line or fails.
+// function here, whether the writer takes the line or fails; and of a writer that tells what it holds, that it holds the line then.
 #![tactic(auto)]
 
 pub mod list;
 
-ghost use Rattle.std.specs.Prelude.{false, ◌≡◌};
+ghost use Rattle.std.specs.Prelude.{false, ◌≡◌, OnOk};
+ghost use Rattle.std.specs.Io.KnownBytes.{Appends};
 ghost use Rattle.digits.specs.Put.{put_end, put_into};
 ghost use Rattle.line.specs.Line.{refusal_line};
 ghost use Rattle.line.specs.Put.{fixed_line};
 ghost use Rattle.reader.specs.Request.{asked_of, scratch_after};
-ghost use Rattle.say.specs.Say.{mark_for, filled_line, record_line, answer_line, answer_scratch};
+ghost use Rattle.say.specs.Say.{mark_for, filled_line, record_line, answer_line, answer_scratch, printed, printed_line};
 
 use digits::Put;
 use line::piece::Mark;
@@ -29,6 +30,7 @@ pub fn say_answer<W: Write>(
 ) -> io::Result<()>
     ensures scratch_after { scratch.new ≡ answer_scratch file.now scratch.old answer }
     ensures out_after { out.new ≡ put_into out.old 0 (answer_line file.now scratch.old answer) }
+    ensures written { OnOk result (Appends (W.contents to.old) (W.contents to.new) (printed_line out.old (answer_line file.now scratch.old answer))) }
 {
     match answer {
         Answer::Handed(handed) => say_event(to, file, scratch, out, handed),
@@ -37,6 +39,7 @@ pub fn say_answer<W: Write>(
     }
 }
 
+#[tactic(auto, using(crate::specs::Printed::printed_put))]
 pub fn say_event<W: Write>(
     to: &mut W,
     file: &[u8],
@@ -46,6 +49,7 @@ pub fn say_event<W: Write>(
 ) -> io::Result<()>
     ensures scratch_after { scratch.new ≡ scratch_after file.now scratch.old (asked_of file.now handed) }
     ensures out_after { out.new ≡ put_into out.old 0 (record_line false file.now scratch.old handed) }
+    ensures written { OnOk result (Appends (W.contents to.old) (W.contents to.new) (printed_line out.old (record_line false file.now scratch.old handed))) }
 {
     let put = put_record(file, scratch, out, handed, false);
     say_put(to, out, put)
@@ -95,29 +99,32 @@ fn mark_of(handed: Record, traced: bool) -> Mark
     }
 }
 
+#[tactic(auto, using(crate::specs::Printed::printed_put))]
 pub fn say_fixed<W: Write>(to: &mut W, out: &mut [u8], fixed: Fixed) -> io::Result<()>
-    ensures { out.new ≡ put_into out.old 0 (fixed_line fixed) }
+    ensures out_after { out.new ≡ put_into out.old 0 (fixed_line fixed) }
+    ensures written { OnOk result (Appends (W.contents to.old) (W.contents to.new) (printed_line out.old (fixed_line fixed))) }
 {
     let put = put_fixed(out, 0, fixed);
     say_put(to, out, put)
 }
 
+#[tactic(auto, using(crate::specs::Printed::printed_put))]
 pub fn say_refusal<W: Write>(to: &mut W, out: &mut [u8], number: u64, place: u64) -> io::Result<()>
-    ensures { out.new ≡ put_into out.old 0 (refusal_line number place) }
+    ensures out_after { out.new ≡ put_into out.old 0 (refusal_line number place) }
+    ensures written { OnOk result (Appends (W.contents to.old) (W.contents to.new) (printed_line out.old (refusal_line number place))) }
 {
     let put = put_refusal(out, 0, number, place);
     say_put(to, out, put)
 }
 
 // Puts the line at the start of the memory to the writer.
-pub fn say_put<W: Write>(to: &mut W, out: &[u8], put: Put) -> io::Result<()> {
+#[tactic(auto, unfolding(crate::specs::Say::printed))]
+pub fn say_put<W: Write>(to: &mut W, out: &[u8], put: Put) -> io::Result<()>
+    ensures { OnOk result (Appends (W.contents to.old) (W.contents to.new) (printed out.now put)) }
+{
     match put {
-        Put::End(end) => {
-            if end <= out.len() {
-                to.write_all(&out[..end])?;
-            }
-            Ok(())
-        }
+        Put::End(end) if end <= out.len() => to.write_all(&out[..end]),
+        Put::End(_) => Ok(()),
         Put::NoRoom => to.write_all(b"no room\n"),
     }
 }

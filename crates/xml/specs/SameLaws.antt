@@ -1,5 +1,5 @@
 -- Two lists of events give the same XML exactly when they are the same but for given lengths and for dates with the same floor.
-use Rattle.std.specs.Prelude.{true, false, ◌↔◌, ◌≡◌, refl, ℕ}
+use Rattle.std.specs.Prelude.{true, ◌↔◌, ◌≡◌, refl, ℕ}
 use Rattle.std.proofs.lemmas.Bool.{false≢true}
 use mathlib.Core.List.{List, [], ◌∷◌, ◌++◌, map, append_assoc, append_cancel_left, nil≢cons, head-eq_of_cons-eq, tail-eq_of_cons-eq}
 use Rattle.std.proofs.Common.{sym, ap, ap₂, ◌∙◌, arith}

@@ -1,4 +1,6 @@
 // XML from an event tape, as a clerk can open it.
+#![tactic(auto)]
+
 pub mod answer;
 mod lines;
 mod put;

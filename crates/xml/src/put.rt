@@ -12,13 +12,13 @@ ghost use Rattle.xml.specs.Xml.{escape, is_key, end_tag, empty_tag, line, elemen
 use crate::answer::Bar;
 use crate::simple::is_simple;
 use crate::text::{is_barred, put_escaped, write_piece};
-use radix64::{base64_length, put_base64};
 use calendar::{Dated, calendar_of};
 use digits::decimal::{put_signed, signed_length};
 use digits::fits;
 use digits::stamp::{STAMP_LENGTH, put_stamp};
 use event::{Event, Integer};
 use grammar::turn::Due;
+use radix64::{base64_length, put_base64};
 
 // The place behind a line, whether there was room for it or not; or why there is none.
 #[derive(Clone, Copy)]
