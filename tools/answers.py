@@ -226,7 +226,8 @@ class Turner:
                 self.said(f"{where}: {lemma} takes {self.takes[lemma]}, which is not above {place}")
             return found[0]
 
-        text = re.sub(rf"(?<![^\s(\[,])({W}) ({W})((?:\.before)*)(?=[\s)\],]|$)(?! =)", handed, text)
+        if self.takes:
+            text = re.sub(rf"(?<![^\s(\[,])({'|'.join(map(re.escape, self.takes))}) ({W})((?:\.before)*)(?=[\s)\],]|$)(?! =)", handed, text)
 
         def one(found):
             head, labels = found[1], found[2][1:].split(".")
@@ -334,6 +335,9 @@ def turn(crate, path, fun, said):
     if "tie.close" not in text:
         said(f"{where}: no tie.close")
         return False
+    # an earlier place's record by a name of its own
+    for it in re.finditer(rf"(?m)^(?:--[^\n]*\n)*abbrev ({W}) : tie\.[^→\n]* → tie\.[^\n]*\n\1 ({W}) = \2((?:\.before)*)\n\n", text):
+        text = re.sub(rf"\({re.escape(it[1])} ({W}(?:\.{W})*)\)", lambda f: f[1] + it[3], text.replace(it[0], ""))
     inner = set()
     while True:
         t = Turner(fun, lambda _: None)
@@ -426,9 +430,9 @@ def written(crate, path, text, where, t):
             if b is None:
                 said(f"{where}: cannot read {it[1]}")
                 continue
-            if b[2].strip() == "search rules":
-                continue
             unfolding = rest[: b.start()].strip()
+            if b[2].strip() == "search rules" and not unfolding:
+                continue
             params = [p for p in b[1].split() if p != "κs"]
             body = t.body(b[2], place, f"{where}:{it[1]}", "c" if "c" in params else params[0] if params else "c")
             if new.startswith("returns"):

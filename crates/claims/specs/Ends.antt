@@ -93,7 +93,7 @@ left file r = weight (length file) max_open r.frames r.depth
 abbrev pub Final : Said → Type 0
 Final (event e) = ⊥
 Final ended = Unit {0}
-Final (refused number values place) = Unit {0}
+Final (refused number values at) = Unit {0}
 
 -- a call of a reader with an open container is final, or closes the last one, or goes on with less weight
 data Goes (file : List ℕ) (r : Reader) : Type 0 where

@@ -1,6 +1,6 @@
 -- What a call may answer in a state that a fresh reader comes to by calls on one file, and what state it leaves: all that the claims
 -- about answers need, shown once.
-use Rattle.std.specs.Prelude.{true, List, ◌⊎◌, ◌≡◌, refl, ℕ, suc, ◌≤◌, ◌<◌, length}
+use Rattle.std.specs.Prelude.{true, List, ◌⊎◌, ◌≡◌, refl, ℕ, suc, ◌≤◌, ◌<◌}
 use Rattle.std.proofs.Math.Logic.{inl}
 use Rattle.std.proofs.Common.{inr, arith}
 use Rattle.number.specs.Among.{among, among_not}
@@ -17,7 +17,7 @@ use Rattle.reader.specs.NextLaws.{next_ended}
 use Rattle.reader.specs.Request.{asked_of}
 use Rattle.layout.specs.Refusals.{file_refusals}
 use Rattle.reader.specs.Refusals.{step_refusals, step_refusal, not_file_14, not_file_15}
-use Rattle.reader.specs.State.{max_open, max_length, fresh_reader, ended_reader, open_of, innermost}
+use Rattle.reader.specs.State.{max_open, fresh_reader, ended_reader, open_of, innermost}
 use Rattle.reader.specs.declared.state.Reader.{Reader}
 use Rattle.written_claims.specs.AskedLaws.{own_scalar, own_start, own_end}
 use Rattle.claims.specs.Call as call

@@ -1,5 +1,4 @@
 -- A record is given: it isn't denied.
-use Rattle.std.specs.Prelude.{List, ℕ}
 use Rattle.layout.specs.Bytes.{Asked, in_file, in_utf16, no_bytes, denied}
 
 abbrev pub Given : Asked → Type 0

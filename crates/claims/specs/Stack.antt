@@ -1,5 +1,5 @@
 -- Handing out a reference, entering a container and closing one keep what holds of the open containers.
-use Rattle.std.specs.Prelude.{Bool, true, false, List, ◌⊎◌, ◌≡◌, refl, ℕ, zero, suc, ◌+◌, ◌-◌, ◌≤◌, ◌<◌, eqb, length, get_or, set, replicate}
+use Rattle.std.specs.Prelude.{Bool, true, false, List, ◌⊎◌, ◌≡◌, refl, ℕ, zero, suc, ◌+◌, ◌-◌, ◌≤◌, ◌<◌, eqb, get_or, set, replicate}
 use Rattle.std.proofs.Common.{inl, inr, ap, ◌∙◌, arith, eqb-true, lit<, lit≤, length-set, get_or-set_same, get_or-set_other}
 use Rattle.std.proofs.lemmas.Bool.{eqb-false}
 use Rattle.layout.specs.FoundLaws.{refs_of}

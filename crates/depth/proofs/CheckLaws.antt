@@ -1,5 +1,5 @@
 -- THE CHECK of a tape of arrays that stand inside each other, however many they are: it is whole exactly where they are 1 to maxOpen.
-use Rattle.std.specs.Prelude.{Bool, true, false, cond, List, [], ◌∷◌, ◌++◌, ◌↔◌, ◌≡◌, refl, ℕ, zero, suc, ◌+◌, ◌-◌, ◌≤◌, ◌<◌, ltb, leb, eqb, length, take, replicate}
+use Rattle.std.specs.Prelude.{Bool, true, false, cond, List, [], ◌∷◌, ◌++◌, ◌↔◌, ◌≡◌, refl, ℕ, zero, suc, ◌+◌, ◌-◌, ◌≤◌, ◌<◌, ltb, leb, length, take, replicate}
 use Rattle.std.proofs.Math.Option.{none}
 use Rattle.std.proofs.Common.{sym, ap, ◌∙◌, zero-add, arith, le-leb, ne_eqb, ltb-false, leb-true, leb-false, lit<, lit≤, length-append}
 use Rattle.std.proofs.lemmas.Bool.{lt-leb}

@@ -65,7 +65,8 @@ module _ (k j : ℕ) where
   ahead_is m (suc n) (suc d) e h =
       let i : m + suc d ≡ suc m + d = omega arith in
       let l : length (bytes_at (es k j) (box m)) ≡ 1 + refs k = rw (bytes_one m n e, length_bytes_of (refs k) (suc m)) (omega arith) in
-      rw (ne_eqb (m + suc d) m (λ e. omega arith), l, i, suc-mul d (1 + refs k)) (omega (arith, ahead_is (suc m) n d (omega arith) (omega arith)))
+      let behind : ahead (bytes_at (es k j)) (box (m + suc d)) (boxes (suc m) (suc n)) ≡ d * (1 + refs k) = ap (λ (p : ℕ). ahead (bytes_at (es k j)) (box p) (boxes (suc m) (suc n))) i ∙ ahead_is (suc m) n d (omega arith) (omega arith) in
+      rw (ne_eqb (m + suc d) m (λ e. omega arith), l, suc-mul d (1 + refs k)) (omega (arith, behind))
 
   pub place_is : (i : ℕ) → i ≤ k → place_of (es k j) (box i) ≡ offset k i
   unfolding place_of offset

@@ -1,4 +1,6 @@
 // What Rust and C link: each function is a thin one over a crate's own, by the C calling convention.
+#![tactic(auto)]
+
 pub mod date;
 pub mod tape_append;
 pub mod tape_step;

@@ -1,4 +1,6 @@
 // A file read plainly: down through its objects by calls of the same function, with no state between calls, each event put on a tape.
+#![tactic(auto)]
+
 mod put;
 
 ghost use Rattle.std.specs.Prelude.{[], ◌≡◌, ◌≤◌, ◌-◌, length, take};

@@ -1,5 +1,5 @@
 -- A transcript holds what the reader's answers mean, in order, and ends as the next answer says.
-use Rattle.std.specs.Prelude.{Bool, ◌⊎◌, ◌≡◌, ltb, take}
+use Rattle.std.specs.Prelude.{Bool, ◌⊎◌, ◌≡◌, take}
 use Rattle.std.proofs.Math.Bool.{true, false}
 use Rattle.std.proofs.Common.{true≢false, inl, inr, ap, ◌∙◌, zero-add, add-zero, length-drop, take_at, drop_at}
 use mathlib.Core.List.{List, [], ◌∷◌, ◌++◌, map}
@@ -27,7 +27,7 @@ use Rattle.reader.specs.Meanings as meanings
 use Rattle.reader.specs.Next.{next_of}
 use Rattle.reader.specs.Refusals.{not_step_16, not_step_27}
 use Rattle.reader.specs.Request.{length_said, scratch_after, part_said}
-use Rattle.reader.specs.State.{max_length, fresh_reader}
+use Rattle.reader.specs.State.{fresh_reader}
 use Rattle.reader.specs.declared.state.Reader.{Reader}
 use Rattle.tape.specs.Append.{put_of, put_to, fits, append_of, append_to}
 use Rattle.utf.proofs.Writing.{sets_append}
@@ -108,19 +108,19 @@ module _ (file scratch tape : List ℕ) (held : ℕ) (e : Event) (offset : ℕ) 
   module _ (h : has_bytes e ≡ true) (start n : ℕ) where
     pub note_file : event_asked file e offset ≡ in_file start n → note_of file scratch tape held e offset ≡ put_note scratch tape held (meaning_at file e offset)
     unfolding note_of text_note length_said scratch_after part_said meaning_at bytes_asked
-    note_file d = rw (h, d, length_said, text_note)
+    note_file d = rw (h, d, length_said, text_note, d, scratch_after, part_said)
 
     module _ (d : event_asked file e offset ≡ in_utf16 start n) where
       pub note_long : leb (length (utf16_text file start n)) (length scratch) ≡ false → note_of file scratch tape held e offset ≡ noting (note.refused 16 [] offset) tape scratch
       unfolding note_of text_note length_said scratch_after
-      note_long f = rw (h, d, length_said, f, text_note, scratch_after, f)
+      note_long f = rw (h, d, length_said, f, text_note, d, scratch_after, f)
 
       pub note_changed : leb (length (utf16_text file start n)) (length scratch) ≡ true → note_of file scratch tape held e offset ≡ put_note (utf16_text file start n ++ drop (length (utf16_text file start n)) scratch) tape held (meaning_at file e offset)
       unfolding note_of text_note length_said scratch_after part_said meaning_at bytes_asked
       note_changed f =
           let t : List ℕ = utf16_text file start n in
           let g : leb (length t) (length (t ++ drop (length t) scratch)) ≡ true = le-leb (length t) (length (t ++ drop (length t) scratch)) (simp length-append (omega arith)) in
-          rw (h, d, length_said, f, text_note, scratch_after, f, part_said, g, take-append_seam t (drop (length t) scratch))
+          rw (h, d, length_said, f, text_note, d, scratch_after, f, part_said, d, scratch_after, f, g, take-append_seam t (drop (length t) scratch))
 
       note_utf16 : e ≡ String → Notes file scratch tape held (meaning_at file e offset) offset (note_of file scratch tape held e offset)
       unfolding meaning_at bytes_asked meaning_of

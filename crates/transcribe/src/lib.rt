@@ -1,4 +1,6 @@
 // A whole file onto a tape: what a fresh reader answers to its end, every event appended.
+#![tactic(auto)]
+
 mod note;
 mod walk;
 

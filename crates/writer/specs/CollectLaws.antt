@@ -1,5 +1,5 @@
 -- What one turn of the pass that collects events finds at its event.
-use Rattle.std.specs.Prelude.{◌≡◌, ℕ, suc, ◌+◌, ◌-◌, ◌*◌, ◌<◌, ◌≤◌, Bool, true, false, cond, List, ◌∷◌, length, take, drop, set, ◌==◌, nat_lt, slice_index, slice_index_or, slice_range, slice_set, refl}
+use Rattle.std.specs.Prelude.{◌≡◌, ℕ, suc, ◌+◌, ◌-◌, ◌*◌, ◌<◌, ◌≤◌, Bool, true, false, cond, List, ◌∷◌, length, take, drop, ◌==◌, nat_lt, slice_index, slice_index_or, slice_range, slice_set, refl}
 use mathlib.Core.List.{head-eq_of_cons-eq}
 use Rattle.std.proofs.Common.{sym, ◌∙◌, add-one, arith, lt-ltb, le-ltb, eq-eqb, ne_eqb, length-set, get_or-set_same, get_or-set_other}
 use Rattle.event.specs.Format.{max_length}

@@ -1,5 +1,5 @@
 -- Words that change in one column leave the others; a column grows by the word that is set.
-use Rattle.std.specs.Prelude.{◌≡◌, ℕ, suc, ◌+◌, ◌*◌, ◌<◌, ◌≤◌, Bool, true, false, List, ◌∷◌, length, drop, set, ◌==◌, ◌≢◌, slice_index, slice_index_or, slice_set, refl}
+use Rattle.std.specs.Prelude.{◌≡◌, ℕ, suc, ◌+◌, ◌*◌, ◌<◌, ◌≤◌, Bool, true, false, List, ◌∷◌, length, drop, ◌==◌, ◌≢◌, slice_index, slice_index_or, slice_set, refl}
 use mathlib.Core.List.{head-eq_of_cons-eq}
 use Rattle.std.proofs.Common.{sym, ◌∙◌, arith, eqb-true, length-set, get_or-set_same, get_or-set_other}
 use Rattle.std.proofs.lemmas.Bool.{eqb-false}

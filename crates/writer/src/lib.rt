@@ -8,6 +8,8 @@
 //   4  NUM   of an event that is its own REP the object's number plus 1; 0 is none yet
 //   5  AT    where object i begins in the file; 0 is nowhere yet
 // Until REP stands for all events, the words from column 4 to the last are the index by which it is found (find.rt).
+#![tactic(auto)]
+
 mod alike;
 pub mod answer;
 mod assign;

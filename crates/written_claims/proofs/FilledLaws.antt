@@ -1,5 +1,5 @@
 -- What the reader is to hand out is the events with their lengths filled in. Those are the same events to the writer.
-use Rattle.std.specs.Prelude.{true, false, ◌≡◌, ltb, length}
+use Rattle.std.specs.Prelude.{true, ◌≡◌, ltb, length}
 use Rattle.std.proofs.lemmas.Bool.{false≢true}
 use mathlib.Core.List.{List, [], ◌∷◌, map}
 use Rattle.std.proofs.Math.Option.{some}

@@ -1,5 +1,5 @@
 -- What the written file's bytes say of each number below the count: a scalar, or a container with its references.
-use Rattle.std.specs.Prelude.{true, false, ◌≡◌, refl, ℕ, suc, ◌≤◌, ◌<◌, length}
+use Rattle.std.specs.Prelude.{false, ◌≡◌, refl, ℕ, suc, ◌≤◌, ◌<◌, length}
 use Rattle.std.proofs.Common.{true≢false, ◌∙◌, arith, le-ltb}
 use mathlib.Core.List.{List, [], ◌∷◌, map}
 use Rattle.std.proofs.Math.Option.{some}

@@ -25,7 +25,7 @@ use Rattle.tape.specs.EventsLaws.{AllOnTape}
 use Rattle.transcribe.specs.HandedLaws.{plain_same}
 use Rattle.transcribe.specs.Note.{kept, noting, put_note, text_note, note_of, from_tape}
 use Rattle.transcribe.specs.Note as note
-use Rattle.transcribe.specs.Run.{Run, run, refused, by_noted, by_note, by_said, run_of}
+use Rattle.transcribe.specs.Run.{Run, run, by_noted, by_note, by_said, run_of}
 use Rattle.transcribe.specs.TranscriptLaws.{Put, meanings_of}
 use Rattle.written_claims.specs.HandsOut.{content_of, scratch_for, HandsOut, HandOut}
 use Rattle.written_claims.proofs.HandsOutLaws.{content_is}

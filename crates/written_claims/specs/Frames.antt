@@ -1,5 +1,5 @@
 -- The changes of the reader's state, on a state with k + 1 open containers.
-use Rattle.std.specs.Prelude.{false, List, [], ◌∷◌, ◌≡◌, refl, ℕ, zero, suc, ◌+◌, ◌-◌, ◌<◌, set, take}
+use Rattle.std.specs.Prelude.{false, List, [], ◌∷◌, ◌≡◌, refl, ℕ, zero, suc, ◌-◌, ◌<◌, set, take}
 use Rattle.std.proofs.Math.Path.{ap}
 use Rattle.std.proofs.Common.{add-one, arith}
 use borrow.Author.Tests.{eq-eqb, ne_eqb, lt-leb}

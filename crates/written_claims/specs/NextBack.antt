@@ -12,7 +12,7 @@ use Rattle.layout.specs.declared.frame.Frame.{Frame}
 use Rattle.reader.specs.Calls.{calls, answers_of}
 use Rattle.reader.specs.Machine as machine
 use Rattle.reader.specs.Machine.{Said, arrive, step_of}
-use Rattle.reader.specs.Meanings.{Told, ended, told, answers}
+use Rattle.reader.specs.Meanings.{Told, ended, told}
 use Rattle.reader.specs.Next.{laid_out, begin, with_refs, go_on, next_of}
 use Rattle.reader.specs.State.{max_open, max_length, fresh_reader, moved}
 use Rattle.written.specs.Graph.{Piece, Name}

@@ -1,1 +1,3 @@
 // Theorems only: what holds of every file that is written, as the reader's own definitions read it.
+
+#![tactic(auto)]

@@ -1,0 +1,7 @@
+-- Both are moved first, so that zeros count.
+use Rattle.writer.specs.Alike.{product_of}
+use Rattle.writer.proofs.alike.product.Goals as goal
+
+pub returns : goal.returns
+unfolding product_of
+returns c = cc
