@@ -69,7 +69,12 @@ fn lengthen(rt: &impl Files) -> io::Result<()> {
 fn count(rt: &(impl Files + Print), name: &str) -> io::Result<()> {
     list_file(rt, name, &mut File::create(rt, "lines")?, false)?;
     let mut lines = [0u8; 524288];
-    let n = read_full(&mut File::open(rt, "lines")?, &mut lines)?;
+    say_listing(rt, &mut lines)
+}
+
+// What that file says of itself, which is read into the lent memory.
+fn say_listing(rt: &(impl Files + Print), lines: &mut [u8; 524288]) -> io::Result<()> {
+    let n = read_full(&mut File::open(rt, "lines")?, lines)?;
     say_count(rt, &lines[..n])
 }
 
@@ -85,9 +90,7 @@ fn newlines(lines: &[u8]) -> u64 {
 
 // What stands behind the last newline but one.
 fn say_last(rt: &impl Print, lines: &[u8]) -> io::Result<()> {
-    let mut start = lines.len();
-    while 1 < start {
-        start -= 1;
+    for start in (1..lines.len()).rev() {
         if lines[start - 1] == b'\n' {
             return rt.write_all(&lines[start..]);
         }

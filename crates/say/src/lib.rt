@@ -21,6 +21,7 @@ use reader::request::{text_length, text_part};
 use std::io;
 use std::io::Write;
 
+#[tactic(auto, unfolding(crate::specs::Say::answer_line, crate::specs::Say::answer_scratch))]
 pub fn say_answer<W: Write>(
     to: &mut W,
     file: &[u8],
@@ -39,7 +40,7 @@ pub fn say_answer<W: Write>(
     }
 }
 
-#[tactic(auto, using(crate::specs::Printed::printed_put))]
+#[tactic(auto, using(crate::proofs::Printed::printed_put))]
 pub fn say_event<W: Write>(
     to: &mut W,
     file: &[u8],
@@ -57,6 +58,7 @@ pub fn say_event<W: Write>(
 
 // The line of a record, at the start of the memory, in a trace or in a listing. Its bytes are asked for first; there are none where the request is
 // refused.
+#[tactic(auto, unfolding(crate::specs::Say::record_line))]
 pub fn put_record(
     file: &[u8],
     scratch: &mut [u8],
@@ -73,6 +75,7 @@ pub fn put_record(
 }
 
 // The line of a record whose bytes have been asked for.
+#[tactic(auto, unfolding(crate::specs::Say::filled_line))]
 pub(crate) fn put_filled<'a>(
     file: &'a [u8],
     scratch: &'a [u8],
@@ -88,6 +91,7 @@ pub(crate) fn put_filled<'a>(
     put_event(out, 0, event, text_part(file, scratch, handed), mark)
 }
 
+#[tactic(auto, unfolding(crate::specs::Say::mark_for))]
 fn mark_of(handed: Record, traced: bool) -> Mark
     ensures { result ≡ mark_for traced handed }
 {
@@ -99,7 +103,7 @@ fn mark_of(handed: Record, traced: bool) -> Mark
     }
 }
 
-#[tactic(auto, using(crate::specs::Printed::printed_put))]
+#[tactic(auto, using(crate::proofs::Printed::printed_put))]
 pub fn say_fixed<W: Write>(to: &mut W, out: &mut [u8], fixed: Fixed) -> io::Result<()>
     ensures out_after { out.new ≡ put_into out.old 0 (fixed_line fixed) }
     ensures written { OnOk result (Appends (W.contents to.old) (W.contents to.new) (printed_line out.old (fixed_line fixed))) }
@@ -108,7 +112,7 @@ pub fn say_fixed<W: Write>(to: &mut W, out: &mut [u8], fixed: Fixed) -> io::Resu
     say_put(to, out, put)
 }
 
-#[tactic(auto, using(crate::specs::Printed::printed_put))]
+#[tactic(auto, using(crate::proofs::Printed::printed_put))]
 pub fn say_refusal<W: Write>(to: &mut W, out: &mut [u8], number: u64, place: u64) -> io::Result<()>
     ensures out_after { out.new ≡ put_into out.old 0 (refusal_line number place) }
     ensures written { OnOk result (Appends (W.contents to.old) (W.contents to.new) (printed_line out.old (refusal_line number place))) }
