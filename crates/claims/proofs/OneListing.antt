@@ -1,6 +1,6 @@
 -- Each contract of the functions behind the listing leaves one answer, and one content of all lent memory. A line that is printed is put to a
 -- writer, which may fail: that it fails is its own affair, and all else is one.
-use mathlib.Core.List.{List, ◌++◌}
+use mathlib.Core.List.{List}
 use mathlib.Core.Path.{◌≡◌, refl, sym, ◌∙◌}
 use Prim.Native.Nat.{ℕ}
 use borrow.Fn.Kinds.{ParamKind, ResultKind, Out, Dens, ended_of, res_t}
