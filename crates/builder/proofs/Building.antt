@@ -1,27 +1,23 @@
 -- What `build` does on each way is what its definition says.
 use mathlib.Core.Bool.{Bool, true, false, cond}
-use mathlib.Core.List.{List, [], ◌∷◌}
+use mathlib.Core.List.{List, []}
 use mathlib.Core.Path.{◌≡◌, refl, sym, ◌∙◌}
 use Prim.Native.Nat.{ℕ, ◌+◌, ◌≤◌, ◌<◌}
 use native.Mathlib.Omega.{arith}
 use borrow.Author.Tests.{lt-ltb, le-ltb}
-use denote.Enum.Declared.{tag_of}
 use lib.Dec.{ltb}
 use lib.ListN.{length}
 use lib.Seq.{sets}
-use types.Run.{OneOf, miss}
 use Rattle.event.specs.Format.{max_length}
 use Rattle.event.specs.Meaning.{Meaning, meaning_of}
 use Rattle.event.specs.declared.Event.{Event}
 use Rattle.event.specs.declared.Event.TheVariants.{StartArray, StartDictionary, EndCollection, Boolean, Data, Date, Integer, Real, Nan, String, Uid}
 use Rattle.number.specs.BeLaws.{Bytes}
-use Rattle.grammar.specs.contracts.way.Way.{the_type as way-type}
 use Rattle.grammar.specs.Said.{number_of, kinds_of}
 use Rattle.grammar.specs.declared.answer.EventKind.{EventKind}
 use Rattle.grammar.specs.declared.answer.Refusal.{Refusal}
 use Rattle.grammar.specs.declared.way.Way.{Way}
 use Rattle.grammar.specs.declared.way.Way.TheVariants.{Past, Into, Out, Barred}
-use Rattle.tape.specs.contracts.append.Appended.{the_type as appended-type}
 use Rattle.tape.specs.Append as append
 use Rattle.tape.specs.Append.{said, fits, put_of, put_to}
 use Rattle.tape.specs.BytesLaws.{Filled, Sound}
@@ -50,13 +46,6 @@ filled (Nan b) s h = tt
 filled String s h = h
 filled (Uid n) s h = tt
 
--- the tags of the ways that aren't barred
-pub led : (w : Way) → OneOf (0 ∷ 1 ∷ 2 ∷ []) (tag_of way-type w) → Clear w
-led (Past next) k r e = let z : ◌≡◌ {A = ℕ} 0 1 = cc in omega arith
-led (Into first after) k r e = let z : ◌≡◌ {A = ℕ} 0 1 = cc in omega arith
-led Out k r e = let z : ◌≡◌ {A = ℕ} 0 1 = cc in omega arith
-led (Barred q) k r e = miss (0 ∷ 1 ∷ 2 ∷ []) 3 tt k
-
 clear_fitted : (at size room : ℕ) (w : Way) → Clear w → by_way at size room w ≡ fitted_of at size room
 unfolding by_way
 clear_fitted at size room (Past next) k = refl
@@ -68,9 +57,9 @@ clear_fitted at size room (Barred r) k = absurd (k r refl)
 abbrev pub Full : Appended → Type 0
 Full a = (k : ℕ) × (p : ℕ) × (said a ≡ append.refused k p)
 
-pub full_by : (a : Appended) → OneOf (1 ∷ 2 ∷ []) (tag_of appended-type a) → Full a
+pub full_by : (a : Appended) → ((n : ℕ) → a ≡ HeldOn n → ⊥) → Full a
 unfolding said
-full_by (HeldOn n) k = absurd (miss (1 ∷ 2 ∷ []) 0 tt k)
+full_by (HeldOn n) k = absurd (k n refl)
 full_by (BadEvent p) k = (20, p, refl)
 full_by (NoRoomOn p) k = (27, p, refl)
 

@@ -61,6 +61,10 @@ pub record Changing (l : List ℕ) (units : ℕ) (s : List ℕ) (head : ℕ) (r 
   pub answer : r ≡ changed_of true (to_utf16 s) (mid_of head (length l - head) l)
   pub memory : m ≡ changed_to true (to_utf16 s) (mid_of head (length l - head) l)
 
+pub changing : {l : List ℕ} {units : ℕ} (s : List ℕ) {head : ℕ} {r : Changed} {m : List ℕ} → head ≡ head_size units → head ≤ length l →
+    record { value : r ≡ changed_of true (to_utf16 s) (mid_of head (length l - head) l); out_after : m ≡ changed_to true (to_utf16 s) (mid_of head (length l - head) l) } → Changing l units s head r m
+changing s e h p = record { is = e; within = h; answer = p.value; memory = p.out_after }
+
 module _ {l : List ℕ} {units : ℕ} {s : List ℕ} {head : ℕ} {r : Changed} {m : List ℕ} (g : Changing l units s head r m) where
   abbrev part : List ℕ
   part = mid_of head (length l - head) l

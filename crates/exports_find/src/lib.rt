@@ -1,4 +1,6 @@
 // What Rust and C link of the lookup. It is a library of its own: a second function that checks a tape and walks along it would make `zm_write`
 // slower in one library with it (docs/DECISIONS.md).
+#![tactic(auto)]
+
 pub mod find;
 pub mod path_append;

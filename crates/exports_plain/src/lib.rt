@@ -1,5 +1,7 @@
 // What Rust and C link of the plain reader. It is a library of its own: a second function that looks objects up would make `zm_transcribe`
 // slower by half in one library with it (docs/DECISIONS.md).
+#![tactic(auto)]
+
 ghost use Rattle.std.specs.Prelude.{◌≡◌};
 ghost use Rattle.plainly.specs.Plain.{plain_tape};
 ghost use Rattle.plainly.specs.Said.{ending_said};

@@ -4,6 +4,8 @@ use borrow.Rule.Slice.PartMut.{put_mid, mid_of}
 use lib.Seq.{sets}
 use Rattle.encode.specs.Put.{put_into, put_of}
 use Rattle.encode.specs.PutLaws.{put_lent}
+use Rattle.encode.specs.Said.{put_said}
+use Rattle.encode.specs.SaidLaws.{put_said_one}
 use Rattle.encode.specs.declared.put.Put.{Put}
 use Rattle.encode.specs.declared.put.Put.TheVariants.{Bytes}
 use Rattle.writer.specs.Speak.{Wrote}
@@ -13,6 +15,11 @@ pub record Lent (l : List ℕ) (pos : ℕ) (s : List ℕ) (r : Put) (m : List �
   pub room : pos + length s ≤ length l
   pub answer : r ≡ put_of (mid_of pos (length l - pos) l) s
   pub memory : m ≡ put_into (mid_of pos (length l - pos) l) s
+
+-- as what puts a number or a head tells of them
+pub lent_put : (l s : List ℕ) (pos : ℕ) {r : Put} {m : List ℕ} → pos + length s ≤ length l →
+    record { result_value : put_said 0 r ≡ put_said 0 (put_of (mid_of pos (length l - pos) l) s); out_after : m ≡ put_into (mid_of pos (length l - pos) l) s } → Lent l pos s r m
+lent_put l s pos h p = record { room = h; answer = put_said_one 0 _ _ p.result_value; memory = p.out_after }
 
 module _ {l : List ℕ} {pos : ℕ} {s : List ℕ} {r : Put} {m : List ℕ} (x : Lent l pos s r m) where
   put : (r ≡ Bytes (length s)) × (put_mid pos (length l - pos) l m ≡ sets l pos s)

@@ -1,6 +1,6 @@
 -- `put_eight` copies the eight bytes behind their marker, where both lie within and there is room.
 use mathlib.Core.Path.{ap, ◌∙◌}
-use Prim.Native.Nat.{◌+◌, ◌≤◌, ◌<◌}
+use Prim.Native.Nat.{◌+◌, ◌<◌}
 use native.Mathlib.Omega.{arith}
 use lib.ListN.{length, length-set}
 use lib.Seq.{length-sets}
@@ -8,9 +8,6 @@ use Rattle.tape.proofs.Tests.{lacks, has}
 use Rattle.encode.proofs.Putting.{nothing, refused, written, renamed}
 use Rattle.encode.proofs.Runs.{length_between, eight_past, eight_part}
 use Rattle.encode.proofs.put.put_eight.Goals as goal
-use Rattle.encode.proofs.put.put_eight.Lts as lts
-use Rattle.encode.proofs.put.put_eight.Reads as reads
-use Rattle.encode.proofs.put.put_eight.Tie as tie
 
 pub returns-then-lacks_room : goal.returns-then-lacks_room
 returns-then-lacks_room c =
@@ -18,21 +15,17 @@ returns-then-lacks_room c =
     let l : length a.tape.now < a.at + 8 = lacks _ _ _ c.lacks_room.ensures c.if-lacks_room.true in
     renamed _ (eight_past a.tape.now a.at a.marker l) (nothing _)
 
--- the eight bytes lie within the tape
-room : (c : lts.Else1 tie.the-claims reads.Pre reads.Post tie.handed_clauses) → let a = c.args in a.at + 8 ≤ length a.tape.now
-room c = has _ _ _ c.lacks_room.ensures c.if-lacks_room.false
-
 pub returns-then-out-lt9 : goal.returns-then-out-lt9
 returns-then-out-lt9 c =
     let a = c.args in
-    let r = room c.before.before in
+    let r = has _ _ _ c.lacks_room.ensures c.if-lacks_room.false in
     renamed _ (eight_part a.tape.now a.at a.marker r) (refused _ _ (omega (arith, length_between a.tape.now a.at 8 r)))
 
 pub overflow_add-end : goal.overflow_add-end
-overflow_add-end c = omega (arith, room c.before.before)
+overflow_add-end c = omega (arith, has _ _ _ c.lacks_room.ensures c.if-lacks_room.false)
 
 pub slice_bounds-write_bytes-end : goal.slice_bounds-write_bytes-end
-slice_bounds-write_bytes-end c = omega (arith, room c.before.before.before)
+slice_bounds-write_bytes-end c = omega (arith, has _ _ _ c.lacks_room.ensures c.if-lacks_room.false)
 
 pub shape_of-out : goal.shape_of-out
 shape_of-out c = ap length c.write_bytes.ensures ∙ simp (length-sets, length-set)
@@ -40,7 +33,7 @@ shape_of-out c = ap length c.write_bytes.ensures ∙ simp (length-sets, length-s
 pub returns : goal.returns
 returns c =
     let a = c.args in
-    let r = room c.before.before.before.before.before.before.before in
+    let r = has _ _ _ c.lacks_room.ensures c.if-lacks_room.false in
     let n = length_between a.tape.now a.at 8 r in
     let w = c.write_bytes.ensures in
     renamed _ (eight_part a.tape.now a.at a.marker r) (written _ _ (omega arith) (omega arith) (omega arith) w)

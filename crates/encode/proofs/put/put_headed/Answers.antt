@@ -1,18 +1,14 @@
 -- `put_headed` writes the head, then the bytes, where there is room for both.
 use mathlib.Core.Path.{◌∙◌}
-use Prim.Native.Nat.{◌+◌, ◌≤◌, ◌<◌}
+use Prim.Native.Nat.{◌+◌, ◌<◌}
 use native.Mathlib.Omega.{arith}
 use lib.ListN.{length}
 use Rattle.tape.proofs.Tests.{lacks, has}
 use Rattle.encode.specs.Put.{base_of}
-use Rattle.encode.specs.Size.{head_size}
 use Rattle.encode.specs.SizeLaws.{head_some}
 use Rattle.encode.proofs.Heads.{headed_length, headed_sets}
 use Rattle.encode.proofs.Putting.{refused, written}
 use Rattle.encode.proofs.put.put_headed.Goals as goal
-use Rattle.encode.proofs.put.put_headed.Lts as lts
-use Rattle.encode.proofs.put.put_headed.Reads as reads
-use Rattle.encode.proofs.put.put_headed.Tie as tie
 
 pub returns-then-lacks_room : goal.returns-then-lacks_room
 returns-then-lacks_room c =
@@ -20,19 +16,12 @@ returns-then-lacks_room c =
     let l : length a.out.now < c.head_size.result + length a.bytes.now = lacks _ _ _ c.lacks_room.ensures c.if-lacks_room.true in
     refused _ _ (omega (arith, c.head_size.ensures, headed_length (base_of a.base) a.bytes.now))
 
--- there is room for both
-room : (c : lts.Else1 tie.the-claims reads.Pre reads.Post tie.handed_clauses) → let a = c.args in head_size (length a.bytes.now) + length a.bytes.now ≤ length a.out.now
-room c =
-    let a = c.args in
-    let h : c.head_size.result + length a.bytes.now ≤ length a.out.now = has _ _ _ c.lacks_room.ensures c.if-lacks_room.false in
-    omega (arith, c.head_size.ensures)
-
 pub write_head-start-requires : goal.write_head-start-requires
-write_head-start-requires c = omega (arith, room c.before.before)
+write_head-start-requires c = omega (arith, has _ _ _ c.lacks_room.ensures c.if-lacks_room.false, c.head_size.ensures)
 
 pub overflow_add-result : goal.overflow_add-result
 overflow_add-result c =
-    omega (arith, room c.before.before.before.before.before.before.before.before.before, c.write_head-start.ensures.value)
+    omega (arith, has _ _ _ c.lacks_room.ensures c.if-lacks_room.false, c.head_size.ensures, c.write_head-start.ensures.value)
 
 pub returns : goal.returns
 returns c =
@@ -40,4 +29,4 @@ returns c =
     let s = a.bytes.now in
     let n = headed_length (base_of a.base) s in
     let w = c.write_bytes.ensures in
-    written _ _ (omega (arith, head_some (length s))) (omega (arith, room c.before.before.before.before.before.before.before.before.before)) (omega (arith, c.write_head-start.ensures.value)) (w ∙ rw (c.write_head-start.ensures.value, c.write_head-start.ensures.out_after) (headed_sets (base_of a.base) s a.out.now))
+    written _ _ (omega (arith, head_some (length s))) (omega (arith, has _ _ _ c.lacks_room.ensures c.if-lacks_room.false, c.head_size.ensures)) (omega (arith, c.write_head-start.ensures.value)) (w ∙ rw (c.write_head-start.ensures.value, c.write_head-start.ensures.out_after) (headed_sets (base_of a.base) s a.out.now))

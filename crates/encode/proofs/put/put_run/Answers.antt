@@ -1,15 +1,10 @@
 -- `put_run` puts the bytes behind their head, where they lie within the tape.
-use Prim.Native.Nat.{◌+◌, ◌≤◌}
 use native.Mathlib.Omega.{arith}
-use lib.ListN.{length}
 use Rattle.tape.proofs.Tests.{lacks, has}
 use Rattle.encode.specs.Put.{base_of, run_in, headed}
 use Rattle.encode.proofs.Putting.{nothing, renamed}
 use Rattle.encode.proofs.Runs.{run_past, run_part}
 use Rattle.encode.proofs.put.put_run.Goals as goal
-use Rattle.encode.proofs.put.put_run.Lts as lts
-use Rattle.encode.proofs.put.put_run.Reads as reads
-use Rattle.encode.proofs.put.put_run.Tie as tie
 
 pub returns-in_default : goal.returns-in_default
 unfolding run_in
@@ -20,17 +15,13 @@ returns-then-lacks_room c =
     let a = c.args in
     rw c.in-Of.is (renamed _ (run_past a.tape.now c.in-Of.start (headed (base_of a.base)) c.in-Of.n (lacks _ _ _ c.lacks_room.ensures c.if-lacks_room.true)) (nothing _))
 
--- the bytes lie within the tape
-room : (c : lts.Else1 tie.the-claims reads.Pre reads.Post tie.handed_clauses) → c.in-Of.start + c.in-Of.n ≤ length c.args.tape.now
-room c = has _ _ _ c.lacks_room.ensures c.if-lacks_room.false
-
 pub overflow_add-end : goal.overflow_add-end
-overflow_add-end c = omega (arith, room c.before)
+overflow_add-end c = omega (arith, has _ _ _ c.lacks_room.ensures c.if-lacks_room.false)
 
 pub slice_bounds-put_headed-end : goal.slice_bounds-put_headed-end
-slice_bounds-put_headed-end c = omega (arith, room c.before.before)
+slice_bounds-put_headed-end c = omega (arith, has _ _ _ c.lacks_room.ensures c.if-lacks_room.false)
 
 pub returns : goal.returns
 returns c =
     let a = c.args in
-    rw c.in-Of.is (renamed _ (run_part a.tape.now c.in-Of.start (headed (base_of a.base)) c.in-Of.n (room c.before.before.before.before.before.before)) c.put_headed.ensures)
+    rw c.in-Of.is (renamed _ (run_part a.tape.now c.in-Of.start (headed (base_of a.base)) c.in-Of.n (has _ _ _ c.lacks_room.ensures c.if-lacks_room.false)) c.put_headed.ensures)

@@ -1,16 +1,11 @@
 -- `put_text`: with no units it is ASCII, else UTF-16.
-use Prim.Native.Nat.{◌+◌, ◌≤◌}
 use native.Mathlib.Omega.{arith}
 use borrow.Author.Tests.{eq-eqb, ne_eqb}
-use lib.ListN.{length}
 use Rattle.tape.proofs.Tests.{lacks, has}
 use Rattle.encode.specs.Put.{base_of, run_in, in_utf16, text_in}
 use Rattle.encode.proofs.Putting.{nothing, renamed}
 use Rattle.encode.proofs.Runs.{run_past, run_part}
 use Rattle.encode.proofs.put.put_text.Goals as goal
-use Rattle.encode.proofs.put.put_text.Lts as lts
-use Rattle.encode.proofs.put.put_text.Reads as reads
-use Rattle.encode.proofs.put.put_text.Tie as tie
 
 pub returns-then-units-eq0 : goal.returns-then-units-eq0
 unfolding text_in base_of
@@ -30,18 +25,14 @@ returns-then-lacks_room c =
     let a = c.args in
     rw (ne_eqb a.units 0 c.if-units-eq0.false, c.in-Of.is) (renamed _ (run_past a.tape.now c.in-Of.start (in_utf16 a.units) c.in-Of.n (lacks _ _ _ c.lacks_room.ensures c.if-lacks_room.true)) (nothing _))
 
--- the bytes lie within the tape
-room : (c : lts.Else2 tie.the-claims reads.Pre reads.Post tie.handed_clauses) → c.in-Of.start + c.in-Of.n ≤ length c.args.tape.now
-room c = has _ _ _ c.lacks_room.ensures c.if-lacks_room.false
-
 pub overflow_add-end : goal.overflow_add-end
-overflow_add-end c = omega (arith, room c.before)
+overflow_add-end c = omega (arith, has _ _ _ c.lacks_room.ensures c.if-lacks_room.false)
 
 pub slice_bounds-put_utf16-end : goal.slice_bounds-put_utf16-end
-slice_bounds-put_utf16-end c = omega (arith, room c.before.before)
+slice_bounds-put_utf16-end c = omega (arith, has _ _ _ c.lacks_room.ensures c.if-lacks_room.false)
 
 pub returns : goal.returns
 unfolding text_in
 returns c =
     let a = c.args in
-    rw (ne_eqb a.units 0 c.if-units-eq0.false, c.in-Of.is) (renamed _ (run_part a.tape.now c.in-Of.start (in_utf16 a.units) c.in-Of.n (room c.before.before.before.before.before.before)) c.put_utf16.ensures)
+    rw (ne_eqb a.units 0 c.if-units-eq0.false, c.in-Of.is) (renamed _ (run_part a.tape.now c.in-Of.start (in_utf16 a.units) c.in-Of.n (has _ _ _ c.lacks_room.ensures c.if-lacks_room.false)) c.put_utf16.ensures)

@@ -1,5 +1,6 @@
 -- `size_marker` has the marker of each size.
-use borrow.Author.Tests.{ne_eqb}
+use native.Mathlib.Omega.{arith}
+use Rattle.std.proofs.lemmas.Bool.Decides.{nat_tests}
 use Rattle.written.specs.Encoding.{size_marker}
 use Rattle.encode.proofs.put.size_marker.Goals as goal
 
@@ -17,4 +18,4 @@ returns-in-4 c = rw c.in-4.is
 
 pub returns-in_default : goal.returns-in_default
 unfolding size_marker
-returns-in_default c = simp (ne_eqb _ 1 c.in_default.in_default-own.rest.0.0.1, ne_eqb _ 2 c.in_default.in_default-own.rest.0.1, ne_eqb _ 4 c.in_default.in_default-own.rest.1)
+returns-in_default c = grind (arith, nat_tests)

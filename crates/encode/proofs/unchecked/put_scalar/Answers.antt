@@ -2,7 +2,8 @@
 use mathlib.Core.List.{[]}
 use mathlib.Core.Path.{◌≡◌, refl, ap, sym, ◌∙◌}
 use Prim.Native.Nat.{◌+◌}
-use borrow.Author.Tests.{ne_eqb}
+use native.Mathlib.Omega.{arith}
+use Rattle.std.proofs.lemmas.Bool.Decides.{nat_tests}
 use lib.ListN.{get_or}
 use Rattle.encode.specs.Put.{base_of, numbered, positive, negative, uid_bytes, run_in, headed, text_in, of_kind}
 use Rattle.encode.specs.ScalarLaws.{bytes_of_law, bytes_past}
@@ -71,16 +72,5 @@ unfolding of_kind
 returns-in_default c =
     let a = c.args in
     let k = get_or a.tape.now a.at 0 in
-    let r = c.in_default.in_default-own.rest in
-    let e : of_kind a.tape.now k (a.at + 1) a.units ≡ [] = simp (
-      ne_eqb k 0x01 r.0.0.0.0.0.0.0.0.1,
-      ne_eqb k 0x02 r.0.0.0.0.0.0.0.1,
-      ne_eqb k 0x03 r.0.0.0.0.0.0.1,
-      ne_eqb k 0x04 r.0.0.0.0.0.1,
-      ne_eqb k 0x05 r.0.0.0.0.1,
-      ne_eqb k 0x06 r.0.0.0.1,
-      ne_eqb k 0x07 r.0.0.1,
-      ne_eqb k 0x08 r.0.1,
-      ne_eqb k 0x09 r.1,
-    ) in
+    let e : of_kind a.tape.now k (a.at + 1) a.units ≡ [] = grind (arith, nat_tests) in
     said _ (renamed _ (sym e ∙ bytes_of_law a.tape.now a.at a.units k c.if-tape-at.false refl) (nothing _))

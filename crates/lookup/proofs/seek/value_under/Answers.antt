@@ -12,10 +12,10 @@ seek-requires c =
 
 pub returns-in-12 : goal.returns-in-12
 returns-in-12 c =
-    into_pairs c.requires c.args.key.now c.if-tape-at.false c.place_after.ensures c.in-12.if-tape-at-lt12-own.false c.in-12.if-this-lt14-own.true c.seek.result c.seek.ensures
+    into_pairs c.requires c.args.key.now c.if-tape-at.false c.place_after.ensures (omega arith) (omega arith) c.seek.result c.seek.ensures
 
 pub returns-in_default : goal.returns-in_default
-returns-in_default c = into_none c.requires _ c.if-tape-at.false (λ a b. omega (arith, a, c.in_default.if-tape-at-lt12-own.true))
+returns-in_default c = into_none c.requires _ c.if-tape-at.false (λ a b. omega (arith, a, b))
 
 pub returns-in_default-2 : goal.returns-in_default-2
-returns-in_default-2 c = into_none c.requires _ c.if-tape-at.false (λ a b. omega (arith, b, c.in_default.if-this-lt14-own.false))
+returns-in_default-2 c = into_none c.requires _ c.if-tape-at.false (λ a b. omega (arith, a, b))

@@ -7,28 +7,13 @@ pub returns-then-bytes-lt8 : goal.returns-then-bytes-lt8
 unfolding hash_of
 returns-then-bytes-lt8 c = (rw (lt-ltb _ _ c.if-bytes-lt8.true, ← c.few.ensures) c.folded.ensures.0, c.folded.ensures.1)
 
-pub overflow_sub-last : goal.overflow_sub-last
-overflow_sub-last c = omega arith
-
 pub loop-k-init : goal.loop-k-init
 unfolding blocks_of
 loop-k-init c = (omega arith, refl)
 
-pub mixed-h-requires : goal.mixed-h-requires
-mixed-h-requires c = omega arith
-
-pub overflow_add-k : goal.overflow_add-k
-overflow_add-k c = omega arith
-
-pub loop-k-smaller : goal.loop-k-smaller
-loop-k-smaller c = omega arith
-
 pub loop-k-preserved : goal.loop-k-preserved
 unfolding blocks_of
 loop-k-preserved c = (omega arith, rw (add-one, ← c.loop-k.invariant.1) c.mixed-h.ensures)
-
-pub mixed-requires : goal.mixed-requires
-mixed-requires c = omega arith
 
 pub returns : goal.returns
 unfolding hash_of

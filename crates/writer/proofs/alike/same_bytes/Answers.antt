@@ -3,20 +3,8 @@ use Rattle.std.proofs.Common.{◌-◌, length, arith}
 use Rattle.writer.specs.AlikeLaws.{eight_other, eight_more, eight_last}
 use Rattle.writer.proofs.alike.same_bytes.Goals as goal
 
-pub same_few-requires : goal.same_few-requires
-same_few-requires c = c.requires
-
-pub returns-then-a-lt8 : goal.returns-then-a-lt8
-returns-then-a-lt8 c = c.same_few.ensures
-
-pub overflow_sub-last : goal.overflow_sub-last
-overflow_sub-last c = omega arith
-
 pub loop-i-init : goal.loop-i-init
 loop-i-init c j l = absurd (omega arith)
-
-pub same_eight-requires : goal.same_eight-requires
-same_eight-requires c = (omega arith, omega arith)
 
 pub returns-then-not-same_eight : goal.returns-then-not-same_eight
 returns-then-not-same_eight c =
@@ -24,18 +12,12 @@ returns-then-not-same_eight c =
     let x = c.same_eight in
     eight_other a.a.now a.b.now c.loop-i.i 7 x.result x.ensures c.if-not-same_eight.true
 
-pub loop-i-smaller : goal.loop-i-smaller
-loop-i-smaller c = omega arith
-
 pub loop-i-preserved : goal.loop-i-preserved
 loop-i-preserved c =
     let a = c.args in
     let x = c.same_eight in
     let l = c.loop-i in
     eight_more a.a.now a.b.now l.i 7 x.result x.ensures c.if-not-same_eight.false l.invariant
-
-pub same_eight-requires-2 : goal.same_eight-requires-2
-same_eight-requires-2 c = (omega arith, omega arith)
 
 pub returns : goal.returns
 returns c =

@@ -7,23 +7,11 @@ use Rattle.writer.proofs.alike.same_few.Goals as goal
 pub loop-i-init : goal.loop-i-init
 loop-i-init c = (omega arith, λ j f g. absurd (omega arith))
 
-pub overflow_sub-i : goal.overflow_sub-i
-overflow_sub-i c = omega arith
-
-pub bounds-a-i : goal.bounds-a-i
-bounds-a-i c = omega arith
-
-pub bounds-b-i : goal.bounds-b-i
-bounds-b-i c = omega arith
-
 pub returns-then-a-i : goal.returns-then-a-i
 returns-then-a-i c =
     let a = c.args.a.now in
     let b = c.args.b.now in
     sym (bytes_other a b (λ e. c.if-a-i.true (ap (λ (l : List ℕ). get_or l (c.loop-i.i - 1) 0) e)))
-
-pub loop-i-smaller : goal.loop-i-smaller
-loop-i-smaller c = omega arith
 
 pub loop-i-preserved : goal.loop-i-preserved
 loop-i-preserved c =

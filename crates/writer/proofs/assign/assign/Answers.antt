@@ -4,18 +4,6 @@ use Rattle.writer.specs.AssignLaws.{some_events, root_done}
 use Rattle.writer.specs.ClearLaws.{length_cleared}
 use Rattle.writer.proofs.assign.assign.Goals as goal
 
-pub overflow_mul-n : goal.overflow_mul-n
-overflow_mul-n c = omega arith
-
-pub overflow_mul-n-2 : goal.overflow_mul-n-2
-overflow_mul-n-2 c = omega arith
-
-pub clear-requires : goal.clear-requires
-clear-requires c = (omega arith, omega arith)
-
-pub overflow_mul-n-3 : goal.overflow_mul-n-3
-overflow_mul-n-3 c = omega arith
-
 pub mark-k-requires : goal.mark-k-requires
 mark-k-requires c =
     let p = c.requires in
@@ -32,12 +20,6 @@ pub assign_event-k-requires : goal.assign_event-k-requires
 assign_event-k-requires c =
     let i = c.loop-e.invariant in
     (c.requires.0, c.loop-e-test.true, i.1, i.2)
-
-pub overflow_add-e : goal.overflow_add-e
-overflow_add-e c = omega arith
-
-pub loop-e-smaller : goal.loop-e-smaller
-loop-e-smaller c = omega arith
 
 pub loop-e-preserved : goal.loop-e-preserved
 loop-e-preserved c =

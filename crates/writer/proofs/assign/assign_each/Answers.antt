@@ -1,54 +1,41 @@
 -- Member by member; what is marked from the start is marked by what is left.
 use Rattle.std.proofs.Common.{length, sym, ap, ◌∙◌, arith}
 use Rattle.writer.specs.MarksLaws.{new_length}
-use Rattle.writer.specs.PathLaws.{walk_start, walk_done, Turn, walk_turn, walk_less, walk_further}
+use Rattle.writer.specs.PathLaws.{walk_start, walk_done, walk_turn, walk_less, walk_further}
 use Rattle.writer.proofs.assign.assign_each.Goals as goal
-use Rattle.writer.proofs.assign.assign_each.Lts as lts
-use Rattle.writer.proofs.assign.assign_each.Reads as reads
-use Rattle.writer.proofs.assign.assign_each.Tie as tie
 
 pub loop-i-init : goal.loop-i-init
 loop-i-init c =
     let p = c.requires in
     walk_start p.1.0 p.0 p.1.1 p.1.2
 
--- what is known of the words that a turn reads
-turn : (c : lts.In-loop tie.the-claims reads.Pre reads.Post goal.the-invariant-loop-i goal.the-decreases-loop-i) → Turn c.loop-i.invariant c.loop-i-test.true
-turn c = walk_turn c.loop-i.invariant c.loop-i-test.true
-
-pub overflow_mul-n : goal.overflow_mul-n
-overflow_mul-n c = omega arith
-
 pub overflow_add-n : goal.overflow_add-n
-overflow_add-n c = omega (arith, (turn c.before).paired, (turn c.before).sided)
+overflow_add-n c = let t = walk_turn c.loop-i.invariant c.loop-i-test.true in omega (arith, t.paired, t.sided)
 
 pub overflow_add-n-in-loop-i : goal.overflow_add-n-in-loop-i
-overflow_add-n-in-loop-i c = omega (arith, (turn c.before).sided)
+overflow_add-n-in-loop-i c = let t = walk_turn c.loop-i.invariant c.loop-i-test.true in omega (arith, t.sided)
 
 pub word-requires : goal.word-requires
-word-requires c = omega (arith, (turn c.before).sided, c.loop-i.invariant.long)
+word-requires c = let t = walk_turn c.loop-i.invariant c.loop-i-test.true in omega (arith, t.sided, c.loop-i.invariant.long)
 
 pub overflow_add-n-in-loop-i-2 : goal.overflow_add-n-in-loop-i-2
-overflow_add-n-in-loop-i-2 c = omega (arith, (turn c.before.before).under)
+overflow_add-n-in-loop-i-2 c = let t = walk_turn c.loop-i.invariant c.loop-i-test.true in omega (arith, t.under)
 
 pub mark-k-requires : goal.mark-k-requires
 mark-k-requires c =
-    let t = turn c.before.before in
     let o = c.loop-i.invariant in
+    let t = walk_turn o c.loop-i-test.true in
     (rw c.word.ensures.0 (omega (arith, t.under, o.long)), omega (arith, o.few, ap length t.left_is))
 
-pub overflow_add-n-in-loop-i-3 : goal.overflow_add-n-in-loop-i-3
-overflow_add-n-in-loop-i-3 c = omega arith
-
 pub overflow_add-n-in-loop-i-4 : goal.overflow_add-n-in-loop-i-4
-overflow_add-n-in-loop-i-4 c = omega (arith, (turn c.before.before.before.before.before).paired)
+overflow_add-n-in-loop-i-4 c = let t = walk_turn c.loop-i.invariant c.loop-i-test.true in omega (arith, t.paired)
 
 pub overflow_add-n-in-loop-i-5 : goal.overflow_add-n-in-loop-i-5
-overflow_add-n-in-loop-i-5 c = omega (arith, (turn c.before.before.before.before.before).paired)
+overflow_add-n-in-loop-i-5 c = let t = walk_turn c.loop-i.invariant c.loop-i-test.true in omega (arith, t.paired)
 
 pub word-i-requires : goal.word-i-requires
 word-i-requires c =
-    let t = turn c.before.before.before.before.before in
+    let t = walk_turn c.loop-i.invariant c.loop-i-test.true in
     rw (c.mark-k.ensures.0, new_length) (omega (arith, t.paired, c.loop-i.invariant.long))
 
 pub loop-i-smaller : goal.loop-i-smaller

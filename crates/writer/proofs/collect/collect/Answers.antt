@@ -10,9 +10,6 @@ overflow_mul-n c = omega (arith, ready_small c.requires.0)
 pub overflow_mul-n-2 : goal.overflow_mul-n-2
 overflow_mul-n-2 c = omega (arith, ready_small c.requires.0)
 
-pub clear-requires : goal.clear-requires
-clear-requires c = (omega arith, omega arith)
-
 pub loop-e-init : goal.loop-e-init
 loop-e-init c =
     let f = collected_start c.args.tape.now c.args.work.now c.args.n c.requires.1 in
@@ -23,19 +20,10 @@ collect_event-at-requires c =
     let i = c.loop-e.invariant in
     (c.requires.0, c.loop-e-test.true, i.1, i.2, i.3)
 
-pub overflow_add-e : goal.overflow_add-e
-overflow_add-e c = omega arith
-
-pub loop-e-smaller : goal.loop-e-smaller
-loop-e-smaller c = omega arith
-
 pub loop-e-preserved : goal.loop-e-preserved
 loop-e-preserved c =
     let f = c.collect_event-at.ensures in
     (omega arith, rw add-one f.0, rw add-one f.1, rw add-one f.2)
-
-pub shape_of-work : goal.shape_of-work
-shape_of-work c = omega (arith, c.loop-e.invariant.2.long, c.requires.1)
 
 pub returns : goal.returns
 returns c =

@@ -1,11 +1,7 @@
 -- No event that the search met has the bytes; where it ends, event e is the first that has them.
 use Rattle.std.proofs.Common.{◌≡◌, arith}
-use Rattle.writer.specs.Find.{Fit}
 use Rattle.writer.specs.FindLaws.{sought_fits, search_start, search_room, met_fits, met_within, met_here, met_entered, search_on, free_here, free_entered}
 use Rattle.writer.proofs.find.find.Goals as goal
-use Rattle.writer.proofs.find.find.Lts as lts
-use Rattle.writer.proofs.find.find.Reads as reads
-use Rattle.writer.proofs.find.find.Tie as tie
 
 pub overflow_mul-slot : goal.overflow_mul-slot
 overflow_mul-slot c = omega (arith, sought_fits c.requires)
@@ -25,9 +21,6 @@ loop-met-init c =
     let bucket = c.bucket_of in
     search_start c.requires hash.result bucket.result c.word-met.result hash.ensures.0 bucket.ensures.0 bucket.ensures.1 c.word-met.ensures.0
 
-pub overflow_sub-r : goal.overflow_sub-r
-overflow_sub-r c = omega arith
-
 pub is_same-requires : goal.is_same-requires
 is_same-requires c = met_within c.requires c.loop-met.invariant c.loop-met-test.true
 
@@ -40,29 +33,26 @@ returns-then-is_same c =
     (record { value = met_here h x some same.result same.ensures c.if-is_same.true; entered = met_entered h x some same.result same.ensures c.if-is_same.true })
 
 -- all numbers fit
-fit : (c : lts.Else1 tie.the-claims reads.Pre reads.Post goal.the-invariant-loop-met goal.the-decreases-loop-met tie.handed_clauses) → Fit c.args.n c.args.e c.loop-met.met c.loop-met.steps
-fit c = met_fits c.requires c.loop-met.invariant c.loop-met-test.true
-
 pub overflow_mul-slot-in-loop-met : goal.overflow_mul-slot-in-loop-met
-overflow_mul-slot-in-loop-met c = omega (arith, fit c.before)
+overflow_mul-slot-in-loop-met c = omega (arith, met_fits c.requires c.loop-met.invariant c.loop-met-test.true)
 
 pub overflow_add-slot-in-loop-met : goal.overflow_add-slot-in-loop-met
-overflow_add-slot-in-loop-met c = omega (arith, fit c.before)
+overflow_add-slot-in-loop-met c = omega (arith, met_fits c.requires c.loop-met.invariant c.loop-met-test.true)
 
 pub overflow_add-slot-in-loop-met-2 : goal.overflow_add-slot-in-loop-met-2
-overflow_add-slot-in-loop-met-2 c = omega (arith, fit c.before)
+overflow_add-slot-in-loop-met-2 c = omega (arith, met_fits c.requires c.loop-met.invariant c.loop-met-test.true)
 
 pub overflow_add-slot-in-loop-met-3 : goal.overflow_add-slot-in-loop-met-3
-overflow_add-slot-in-loop-met-3 c = omega (arith, fit c.before.before)
+overflow_add-slot-in-loop-met-3 c = omega (arith, met_fits c.requires c.loop-met.invariant c.loop-met-test.true)
 
 pub word-met-requires-in-loop-met : goal.word-met-requires-in-loop-met
-word-met-requires-in-loop-met c = let f = fit c.before.before in omega (arith, sought_fits c.requires)
+word-met-requires-in-loop-met c = let f = met_fits c.requires c.loop-met.invariant c.loop-met-test.true in omega (arith, sought_fits c.requires)
 
 pub overflow_add-steps : goal.overflow_add-steps
-overflow_add-steps c = omega (arith, fit c.before.before.before)
+overflow_add-steps c = omega (arith, met_fits c.requires c.loop-met.invariant c.loop-met-test.true)
 
 pub loop-met-smaller : goal.loop-met-smaller
-loop-met-smaller c = omega (arith, fit c.before.before.before)
+loop-met-smaller c = omega (arith, met_fits c.requires c.loop-met.invariant c.loop-met-test.true)
 
 pub loop-met-preserved : goal.loop-met-preserved
 loop-met-preserved c =

@@ -1,18 +1,12 @@
 -- The sums grow from the last event back; they are far below what a word holds.
-use Rattle.std.proofs.Common.{◌≡◌, ◌+◌, ◌-◌, sym, ◌∙◌, arith}
+use Rattle.std.proofs.Common.{◌≡◌, ◌-◌, sym, ◌∙◌, arith}
 use Rattle.writer.specs.Measure.{Summed}
 use Rattle.writer.specs.MeasureLaws.{weight_le, members_le, summed_none, summed_more, summed_back}
 use Rattle.writer.specs.ReadyLaws.{ready_small}
 use Rattle.writer.proofs.measure.measure.Goals as goal
-use Rattle.writer.proofs.measure.measure.Lts as lts
-use Rattle.writer.proofs.measure.measure.Reads as reads
-use Rattle.writer.proofs.measure.measure.Tie as tie
 
 pub loop-e-init : goal.loop-e-init
 loop-e-init c = summed_none c.requires.0 c.args.work.now c.requires.1
-
-pub overflow_sub-e : goal.overflow_sub-e
-overflow_sub-e c = omega arith
 
 pub measure_event-sums-requires : goal.measure_event-sums-requires
 measure_event-sums-requires c =
@@ -20,33 +14,24 @@ measure_event-sums-requires c =
     (c.requires.0, s.upto, s.columns)
 
 -- an event more is summed up
-more : (c : lts.After-struct_known tie.the-claims reads.Pre reads.Post goal.the-invariant-loop-e goal.the-decreases-loop-e tie.handed_clauses) →
-    let l = c.loop-e in
-    let k = c.measure_event-sums in
-    let a = c.args in
-    Summed a.tape.now k.new.work a.n (l.e - 1) (l.bytes + k.result.bytes) (l.members + k.result.members)
-more c =
-    let l = c.loop-e in
-    let k = c.measure_event-sums in
-    let s = summed_back l.invariant c.loop-e-test.true in
-    summed_more c.requires.0 s c.measure_event-sums.ensures.measured c.measure_event-sums.ensures.weighs
-
 pub overflow_add-bytes : goal.overflow_add-bytes
 overflow_add-bytes c =
     let o = c.requires.0 in
-    let s = more c.before in
+    let k = c.measure_event-sums.ensures in
+    let s = summed_more o (summed_back c.loop-e.invariant c.loop-e-test.true) k.measured k.weighs in
     omega (arith, s.weight, weight_le o (c.loop-e.e - 1) s.upto, o.short, ready_small o)
 
 pub overflow_add-members : goal.overflow_add-members
 overflow_add-members c =
     let o = c.requires.0 in
-    omega (arith, (more c.before.before).count, members_le o (c.loop-e.e - 1), ready_small o)
-
-pub loop-e-smaller : goal.loop-e-smaller
-loop-e-smaller c = omega arith
+    let k = c.measure_event-sums.ensures in
+    let s = summed_more o (summed_back c.loop-e.invariant c.loop-e-test.true) k.measured k.weighs in
+    omega (arith, s.count, members_le o (c.loop-e.e - 1), ready_small o)
 
 pub loop-e-preserved : goal.loop-e-preserved
-loop-e-preserved c = more c.before.before
+loop-e-preserved c =
+    let k = c.measure_event-sums.ensures in
+    summed_more c.requires.0 (summed_back c.loop-e.invariant c.loop-e-test.true) k.measured k.weighs
 
 pub shape_of-work : goal.shape_of-work
 shape_of-work c = c.loop-e.invariant.columns.long ∙ sym c.requires.1.long

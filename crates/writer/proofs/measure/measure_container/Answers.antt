@@ -1,16 +1,11 @@
 -- The walk passes all members up to the end; then the event behind it and their number are set.
-use Rattle.std.proofs.Common.{◌≡◌, ℕ, suc, ◌+◌, ◌<◌, List, length, sym, ◌∙◌, add-one, arith, rules}
-use Rattle.written.specs.Graph.{kids}
-use Rattle.written.specs.Shape.{next_at}
+use Rattle.std.proofs.Common.{◌≡◌, ℕ, suc, ◌+◌, ◌<◌, List, sym, ◌∙◌, add-one, arith, rules}
 use Rattle.writer.specs.Columns.{Measured}
 use Rattle.writer.specs.Measure.{Passed}
 use Rattle.writer.specs.MeasuredLaws.{start_columns, start_weighs, passed_none, passed_lt, passed_few, passed_more, passed_all}
-use Rattle.writer.specs.Ready.{Ready, pieces_in}
+use Rattle.writer.specs.Ready.{Ready}
 use Rattle.writer.specs.ReadyLaws.{ready_small, start_lt, start_le}
 use Rattle.writer.proofs.measure.measure_container.Goals as goal
-use Rattle.writer.proofs.measure.measure_container.Lts as lts
-use Rattle.writer.proofs.measure.measure_container.Reads as reads
-use Rattle.writer.proofs.measure.measure_container.Tie as tie
 
 passed : {t : List ℕ} {n e i members : ℕ} → Ready t n → Passed t e i members → Passed t e i members × (i < n) × (members < n)
 passed o p = (p, passed_lt o p, passed_few o p)
@@ -50,37 +45,26 @@ set_word-requires-2 c =
     (search rules, omega (arith, ready_small o))
 
 -- all members are passed
-all : (c : lts.After-set_word2 tie.the-claims reads.Pre reads.Post goal.the-invariant-loop-work goal.the-decreases-loop-work tie.handed_clauses) →
-    let l = c.loop-work in
-    let a = c.args in
-    (l.i + 1 ≡ next_at (pieces_in a.tape.now) a.e) × (l.members ≡ length (kids 0 (suc a.e) l.invariant.0.behind))
-all c =
-    let (o, h, m, _) = c.requires in
-    let z : c.word.result ≡ 0 = omega arith in
-    passed_all o c.loop-work.invariant.0 m (sym c.word.ensures.0 ∙ z)
-
-columns : (c : lts.After-set_word2 tie.the-claims reads.Pre reads.Post goal.the-invariant-loop-work goal.the-decreases-loop-work tie.handed_clauses) →
-    let a = c.args in
-    Measured a.tape.now c.set_word-2.new.work a.n a.e
-columns c =
-    let l = c.loop-work in
-    let p = l.invariant.0 in
-    let (o, h, m, _) = c.requires in
-    rw (c.set_word-2.ensures, c.set_word.ensures) (start_columns o h m p.kind p.behind p.here (l.i + 1) l.members (all c).0 (all c).1)
-
 pub bounds-tape-at : goal.bounds-tape-at
 bounds-tape-at c =
     let (o, h, m, _) = c.requires in
     let e = c.args.e in
-    omega (arith, c.word-at.ensures.0, (columns c.before.before.before.before.before).off e h, start_lt o e h, start_le o (suc e) h)
+    let l = c.loop-work in
+    let p = l.invariant.0 in
+    let z : c.word.result ≡ 0 = omega arith in
+    let a = passed_all o p m (sym c.word.ensures.0 ∙ z) in
+    let k : Measured c.args.tape.now c.set_word-2.new.work c.args.n e = rw (c.set_word-2.ensures, c.set_word.ensures) (start_columns o h m p.kind p.behind p.here (l.i + 1) l.members a.0 a.1) in
+    omega (arith, c.word-at.ensures.0, k.off e h, start_lt o e h, start_le o (suc e) h)
 
 pub returns : goal.returns
 returns c =
-    let b = c.before.before.before.before.before.before.before in
-    let p = c.loop-work.invariant.0 in
     let (o, h, m, _) = c.requires in
     let e = c.args.e in
-    let k = columns c.before.before.before.before.before.before.before in
+    let l = c.loop-work in
+    let p = l.invariant.0 in
+    let z : c.word.result ≡ 0 = omega arith in
+    let a = passed_all o p m (sym c.word.ensures.0 ∙ z) in
+    let k : Measured c.args.tape.now c.set_word-2.new.work c.args.n e = rw (c.set_word-2.ensures, c.set_word.ensures) (start_columns o h m p.kind p.behind p.here (l.i + 1) l.members a.0 a.1) in
     let stands = c.word-at.ensures.0 ∙ k.off e h in
     let length_is = rw stands at c.length_of.ensures in
-    (record { measured = k; weighs = rw c.head_size.ensures (start_weighs o e p.kind p.behind p.here c.loop-work.members c.length_of.result (all c.before.before.before.before.before.before.before).1 length_is) })
+    record { measured = k; weighs = rw c.head_size.ensures (start_weighs o e p.kind p.behind p.here l.members c.length_of.result a.1 length_is) }

@@ -1,13 +1,7 @@
 -- The container itself; of a dictionary then its keys.
-use Rattle.std.proofs.Common.{◌≡◌, ◌<◌, ◌≤◌, ◌∷◌, get_or, drop, ◌∙◌}
-use Rattle.tape.specs.Events.{start_at}
-use Rattle.written.specs.Graph.{Kind, arr, dic, start}
-use Rattle.writer.specs.Ready.{pieces_in}
+use Rattle.std.proofs.Common.{◌∙◌}
 use Rattle.writer.proofs.Container.{box_small, box_start, box_number, box_place, box_off, box_arr, box_dic, array_listed, array_grown, dictionary_paired, dictionary_keys, dictionary_grown}
 use Rattle.writer.proofs.put.put_container.Goals as goal
-use Rattle.writer.proofs.put.put_container.Lts as lts
-use Rattle.writer.proofs.put.put_container.Reads as reads
-use Rattle.writer.proofs.put.put_container.Tie as tie
 
 pub place_of-place-requires : goal.place_of-place-requires
 place_of-place-requires c =
@@ -20,20 +14,6 @@ set_word-requires c =
     (box_place o k r d c.place_of-place.ensures, box_small o)
 
 -- where the container begins on the tape, and which kind it is
-there : (c : lts.After-shared_slice_known2 tie.the-claims reads.Pre reads.Post) → c.word-at.result ≡ start_at c.args.tape.now c.args.e
-there c =
-    let (o, (k, r, d, _)) = c.requires in
-    c.word-at.ensures.0 ∙ box_off o k r d c.place_of-place.ensures c.set_word.ensures
-
-abbrev Starts : (c : lts.After-shared_slice_known2 tie.the-claims reads.Pre reads.Post) → Kind → Type 0
-Starts c k = drop c.args.e (pieces_in c.args.tape.now) ≡ start k ∷ c.requires.1.1
-
-array : (c : lts.After-shared_slice_known2 tie.the-claims reads.Pre reads.Post) → get_or c.args.tape.now c.word-at.result 0 < 0x0c → Starts c arr
-array c h = let (o, (k, r, d, _)) = c.requires in box_arr o k r d (there c) h
-
-dictionary : (c : lts.After-shared_slice_known2 tie.the-claims reads.Pre reads.Post) → 0x0c ≤ get_or c.args.tape.now c.word-at.result 0 → Starts c dic
-dictionary c h = let (o, (k, r, d, _)) = c.requires in box_dic o k r d (there c) h
-
 pub bounds-tape-at : goal.bounds-tape-at
 bounds-tape-at c =
     let (o, (k, r, d, s)) = c.requires in
@@ -42,34 +22,40 @@ bounds-tape-at c =
 pub put_array-requires : goal.put_array-requires
 put_array-requires c =
     let (o, (k, r, d, s)) = c.requires in
-    (_, array_listed o r (array c.before.before.before c.if-tape-at-lt12.true) c.place_of-place.ensures c.set_word.ensures s)
+    let at = c.place_of-place.ensures in
+    let q = c.set_word.ensures in
+    let e = box_arr o k r d (c.word-at.ensures.0 ∙ box_off o k r d at q) c.if-tape-at-lt12.true in
+    (_, array_listed o r e at q s)
 
 pub returns-then-tape-at-lt12 : goal.returns-then-tape-at-lt12
 returns-then-tape-at-lt12 c =
     let (o, (k, r, d, s)) = c.requires in
-    let e = array c.before.before.before.before.before.before c.if-tape-at-lt12.true in
     let at = c.place_of-place.ensures in
     let q = c.set_word.ensures in
+    let e = box_arr o k r d (c.word-at.ensures.0 ∙ box_off o k r d at q) c.if-tape-at-lt12.true in
     array_grown o r e at q (c.put_array.ensures _ (array_listed o r e at q s))
 
 pub put_dictionary-keys-requires : goal.put_dictionary-keys-requires
 put_dictionary-keys-requires c =
     let (o, (k, r, d, s)) = c.requires in
-    (_, _, dictionary_paired o r (dictionary c.before.before.before c.if-tape-at-lt12.false) c.place_of-place.ensures c.set_word.ensures s)
+    let at = c.place_of-place.ensures in
+    let q = c.set_word.ensures in
+    let e = box_dic o k r d (c.word-at.ensures.0 ∙ box_off o k r d at q) c.if-tape-at-lt12.false in
+    (_, _, dictionary_paired o r e at q s)
 
 pub put_keys-requires : goal.put_keys-requires
 put_keys-requires c =
     let (o, (k, r, d, s)) = c.requires in
-    let e = dictionary c.before.before.before.before.before.before.before.before c.if-tape-at-lt12.false in
     let at = c.place_of-place.ensures in
     let q = c.set_word.ensures in
+    let e = box_dic o k r d (c.word-at.ensures.0 ∙ box_off o k r d at q) c.if-tape-at-lt12.false in
     (_, _, _, dictionary_keys o r e at q s (c.put_dictionary-keys.ensures _ _ (dictionary_paired o r e at q s)))
 
 pub returns : goal.returns
 returns c =
     let (o, (k, r, d, s)) = c.requires in
-    let e = dictionary c.before.before.before.before.before.before.before.before.before.before.before.before.before c.if-tape-at-lt12.false in
     let at = c.place_of-place.ensures in
     let q = c.set_word.ensures in
+    let e = box_dic o k r d (c.word-at.ensures.0 ∙ box_off o k r d at q) c.if-tape-at-lt12.false in
     let f = c.put_dictionary-keys.ensures _ _ (dictionary_paired o r e at q s) in
     dictionary_grown o r e at q s f (c.put_keys.ensures _ _ _ (dictionary_keys o r e at q s f))

@@ -1,16 +1,7 @@
 -- Event by event.
-use Rattle.std.proofs.Common.{sym, ◌∙◌, arith}
+use Rattle.std.proofs.Common.{sym, ◌∙◌}
 use Rattle.writer.proofs.Events.{passed_none, passed_length, passed_told, passed_more, passed_all}
 use Rattle.writer.proofs.put.put_objects.Goals as goal
-
-pub overflow_mul-n : goal.overflow_mul-n
-overflow_mul-n c = omega (arith, c.requires.indexed.long)
-
-pub overflow_mul-n-2 : goal.overflow_mul-n-2
-overflow_mul-n-2 c = omega (arith, c.requires.indexed.long)
-
-pub clear-requires : goal.clear-requires
-clear-requires c = omega (arith, c.requires.indexed.long)
 
 pub loop-e-init : goal.loop-e-init
 loop-e-init c =
@@ -19,12 +10,6 @@ loop-e-init c =
 pub put_event-pos-requires : goal.put_event-pos-requires
 put_event-pos-requires c =
     passed_told c.loop-e.invariant c.requires c.loop-e-test.true
-
-pub overflow_add-e : goal.overflow_add-e
-overflow_add-e c = omega (arith, c.loop-e-test.true)
-
-pub loop-e-smaller : goal.loop-e-smaller
-loop-e-smaller c = omega (arith, c.loop-e-test.true)
 
 pub loop-e-preserved : goal.loop-e-preserved
 loop-e-preserved c =

@@ -6,18 +6,6 @@ use Rattle.writer.proofs.words.clear.Goals as goal
 pub loop-i-init : goal.loop-i-init
 loop-i-init c = (c.requires.0, refl, refl)
 
-pub offset_bounds-work-i : goal.offset_bounds-work-i
-offset_bounds-work-i c = omega arith
-
-pub bounds-work-i : goal.bounds-work-i
-bounds-work-i c = omega arith
-
-pub overflow_add-i : goal.overflow_add-i
-overflow_add-i c = omega arith
-
-pub loop-i-smaller : goal.loop-i-smaller
-loop-i-smaller c = omega arith
-
 pub loop-i-preserved : goal.loop-i-preserved
 loop-i-preserved c =
     let l = c.loop-i in

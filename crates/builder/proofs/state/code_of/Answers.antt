@@ -1,0 +1,23 @@
+-- `code_of`, case by case.
+use Rattle.builder.specs.State.{code_of}
+use Rattle.builder.proofs.state.code_of.Goals as goal
+
+pub returns-in-Root : goal.returns-in-Root
+unfolding code_of
+returns-in-Root c = rw c.in-Root.is
+
+pub returns-in-Element : goal.returns-in-Element
+unfolding code_of
+returns-in-Element c = rw c.in-Element.is
+
+pub returns-in-Key : goal.returns-in-Key
+unfolding code_of
+returns-in-Key c = rw c.in-Key.is
+
+pub returns-in-Value : goal.returns-in-Value
+unfolding code_of
+returns-in-Value c = rw c.in-Value.is
+
+pub returns-in-Nothing : goal.returns-in-Nothing
+unfolding code_of
+returns-in-Nothing c = rw c.in-Nothing.is
