@@ -1,8 +1,17 @@
--- Each contract of the functions behind the listing leaves one answer, and one content of all lent memory. Of what is printed a contract says
--- nothing.
+-- Each contract of the functions behind the listing leaves one answer, and one content of all lent memory. A line that is printed is put to a
+-- writer, which may fail: that it fails is its own affair, and all else is one.
 use mathlib.Core.List.{List}
-use mathlib.Core.Path.{refl, sym, ◌∙◌}
+use mathlib.Core.Path.{◌≡◌, refl, sym, ◌∙◌}
 use Prim.Native.Nat.{ℕ}
+use borrow.Fn.Kinds.{ParamKind, ResultKind, Out, Dens, ended_of, res_t}
+use contract.Lifetimes.{Lfts}
+use denote.Param.Laws.{Laws}
+use denote.RattleType.{RattleType}
+use denote.Triple.Clauses.{AtExit}
+use mir.Syntax.{Dict}
+use Rattle.std.specs.Prelude.{Option, Some, None, Result, Ok, Err, IsSome, IsOk, OnOk}
+use Rattle.std.specs.Io.KnownBytes.{Appends}
+use Rattle.std.specs.declared.io.traits.Write.{Ghosts}
 use Rattle.digits.proofs.fits.Kinds as fits-kinds
 use Rattle.digits.proofs.fits.Reads as fits-reads
 use Rattle.digits.proofs.decimal.decimal_length.Kinds as decimal-length-kinds
@@ -66,23 +75,50 @@ put_refusal_one κs a x y e f p q = (p.0 ∙ sym q.0, p.1 ∙ sym q.1)
 put_fixed_one : One 1 put-fixed-kinds.ps put-fixed-kinds.r put-fixed-reads.Post (List ℕ) (λ κs e. e.0.now)
 put_fixed_one κs a x y e f p q = (p.0 ∙ sym q.0, p.1 ∙ sym q.1)
 
--- ---- lines that are printed: the scratch and the line's memory
+-- ---- lines that are printed
 
-say_answer_one : One 3 say-answer-kinds.ps say-answer-kinds.r say-answer-reads.Post (record { scratch : List ℕ; out : List ℕ }) (λ κs e. record { scratch = e.1.1.0.now; out = e.1.1.1.0.now })
-say_answer_one κs a x y e f p q = (refl, rw (p.0 ∙ sym q.0, p.1 ∙ sym q.1))
+-- Of two calls with the same arguments: the scratch and the line's memory are the same, whatever the writer answered. Where both succeed, the answer is
+-- the same, and so is what the writer holds, of one that tells what it holds
+abbrev OneSaid : (n : ℕ) (ps : List (ParamKind n)) (r : ResultKind n) → Out n ps r → (X : Type 0) → ((κs : Lfts n) → AtExit (ended_of n ps r) κs → X)
+    → ((κs : Lfts n) → (res_t r κs).Denot → Type 0) → ((κs : Lfts n) → Dens κs ps → Option (List ℕ)) → ((κs : Lfts n) → AtExit (ended_of n ps r) κs → Option (List ℕ)) → Type 0
+OneSaid n ps r post X look is_ok before after =
+    (κs : Lfts n) (a : Dens κs ps) (x y : (res_t r κs).Denot) (e f : AtExit (ended_of n ps r) κs) →
+    post κs a x e → post κs a y f →
+    (look κs e ≡ look κs f) × (is_ok κs x → is_ok κs y → (x ≡ y) × (IsSome (before κs a) → after κs e ≡ after κs f))
 
-say_event_one : One 3 say-event-kinds.ps say-event-kinds.r say-event-reads.Post (record { scratch : List ℕ; out : List ℕ }) (λ κs e. record { scratch = e.1.1.0.now; out = e.1.1.1.0.now })
-say_event_one κs a x y e f p q = (refl, rw (p.0 ∙ sym q.0, p.1 ∙ sym q.1))
+same_held : (old e f : Option (List ℕ)) (s : List ℕ) → Appends old e s → Appends old f s → IsSome old → e ≡ f
+same_held None e f s p q told = cc
+same_held (Some b) None f s p q told = absurd p
+same_held (Some b) (Some m) None s p q told = absurd q
+same_held (Some b) (Some m) (Some n) s p q told = rw (p, q)
+
+-- both succeed
+both : {E : Type 0} (x y : Result (Unit {0}) E) (old e f : Option (List ℕ)) (s : List ℕ) → OnOk x (Appends old e s) → OnOk y (Appends old f s) → IsOk x → IsOk y → (x ≡ y) × (IsSome old → e ≡ f)
+both (Ok t) (Ok u) old e f s p q i j = (refl, same_held old e f s p q)
+both (Ok t) (Err u) old e f s p q i j = cc
+both (Err t) y old e f s p q i j = cc
+
+module _ (T : RattleType) (L : Laws T) (W : Ghosts T.Denot) (d : Dict) where
+  say_answer_one : OneSaid 5 (say-answer-kinds.ps T L) (say-answer-kinds.r T L) (say-answer-reads.Post T L W d) (record { scratch : List ℕ; out : List ℕ })
+      (λ κs e. record { scratch = e.1.1.0.now; out = e.1.1.1.0.now }) (λ κs x. IsOk x) (λ κs a. W.contents a.0.now) (λ κs e. W.contents e.0.now)
+  say_answer_one κs a x y e f p q = (rw (p.0 ∙ sym q.0, p.1.0 ∙ sym q.1.0), both x y _ _ _ _ p.1.1 q.1.1)
+
+  say_event_one : OneSaid 5 (say-event-kinds.ps T L) (say-event-kinds.r T L) (say-event-reads.Post T L W d) (record { scratch : List ℕ; out : List ℕ })
+      (λ κs e. record { scratch = e.1.1.0.now; out = e.1.1.1.0.now }) (λ κs x. IsOk x) (λ κs a. W.contents a.0.now) (λ κs e. W.contents e.0.now)
+  say_event_one κs a x y e f p q = (rw (p.0 ∙ sym q.0, p.1.0 ∙ sym q.1.0), both x y _ _ _ _ p.1.1 q.1.1)
+
+  say_fixed_one : OneSaid 3 (say-fixed-kinds.ps T L) (say-fixed-kinds.r T L) (say-fixed-reads.Post T L W d) (List ℕ)
+      (λ κs e. e.1.0.now) (λ κs x. IsOk x) (λ κs a. W.contents a.0.now) (λ κs e. W.contents e.0.now)
+  say_fixed_one κs a x y e f p q = (p.0 ∙ sym q.0, both x y _ _ _ _ p.1 q.1)
+
+  say_refusal_one : OneSaid 3 (say-refusal-kinds.ps T L) (say-refusal-kinds.r T L) (say-refusal-reads.Post T L W d) (List ℕ)
+      (λ κs e. e.1.0.now) (λ κs x. IsOk x) (λ κs a. W.contents a.0.now) (λ κs e. W.contents e.0.now)
+  say_refusal_one κs a x y e f p q = (p.0 ∙ sym q.0, both x y _ _ _ _ p.1 q.1)
+
+  -- it is lent nothing to change but the writer
+  say_put_one : OneSaid 3 (say-put-kinds.ps T L) (say-put-kinds.r T L) (say-put-reads.Post T L W d) (Unit {0})
+      (λ κs e. tt) (λ κs x. IsOk x) (λ κs a. W.contents a.0.now) (λ κs e. W.contents e.0.now)
+  say_put_one κs a x y e f p q = (refl, both x y _ _ _ _ p q)
 
 put_record_one : One 3 put-record-kinds.ps put-record-kinds.r put-record-reads.Post (record { scratch : List ℕ; out : List ℕ }) (λ κs e. record { scratch = e.1.0.now; out = e.1.1.0.now })
 put_record_one κs a x y e f p q = (p.0 ∙ sym q.0, rw (p.1.0 ∙ sym q.1.0, p.1.1 ∙ sym q.1.1))
-
-say_fixed_one : One 1 say-fixed-kinds.ps say-fixed-kinds.r say-fixed-reads.Post (List ℕ) (λ κs e. e.1.0.now)
-say_fixed_one κs a x y e f p q = (refl, p ∙ sym q)
-
-say_refusal_one : One 1 say-refusal-kinds.ps say-refusal-kinds.r say-refusal-reads.Post (List ℕ) (λ κs e. e.1.0.now)
-say_refusal_one κs a x y e f p q = (refl, p ∙ sym q)
-
--- it is lent nothing to change
-say_put_one : One 1 say-put-kinds.ps say-put-kinds.r say-put-reads.Post (Unit {0}) (λ κs e. tt)
-say_put_one κs a x y e f p q = (refl, refl)
