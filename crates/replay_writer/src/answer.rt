@@ -98,14 +98,12 @@ fn lend<W: Write>(
 
 // How many of the last words are as they were. Those before the first one are not looked at.
 fn kept(words: &[u32], first: usize) -> u64 {
-    let mut i = words.len();
-    while first < i {
-        if words[i - 1] != 0xaaaa_aaaa {
-            return (words.len() - i) as u64;
-        }
-        i -= 1;
-    }
-    (words.len() - i) as u64
+    let looked_at = &words[least(first, words.len())..];
+    looked_at
+        .iter()
+        .rev()
+        .take_while(|word| **word == 0xaaaa_aaaa)
+        .count() as u64
 }
 
 // The file that was written, or the refusal.

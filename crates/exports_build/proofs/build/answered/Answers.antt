@@ -2,7 +2,6 @@
 use Rattle.builder.specs.Build.{answer_said}
 use Rattle.exports_build.specs.Build.{numbers_by}
 use Rattle.exports.specs.Write.{first_number, second_number}
-use borrow.Author.Rules.{rules}
 use Rattle.exports_build.proofs.build.answered.Goals as goal
 
 pub returns-in-Held : goal.returns-in-Held

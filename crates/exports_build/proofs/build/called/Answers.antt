@@ -12,17 +12,14 @@ use Rattle.exports.specs.TapeAppend.{meaning_for, chosen_meaning}
 use Rattle.exports.specs.Write.{first_number, second_number}
 use Rattle.exports.specs.declared.tape_append.Chosen.{Chosen}
 use Rattle.exports.specs.declared.tape_append.Chosen.TheVariants.{Event, NoEvent}
-use borrow.Author.Rules.{rules}
 use Rattle.exports_build.proofs.build.called.Goals as goal
-use Rattle.exports_build.proofs.build.called.Lts as lts
-use Rattle.exports_build.proofs.build.called.Reads as reads
-use Rattle.exports_build.proofs.build.called.Tie as tie
+use Rattle.exports_build.proofs.build.called.Goals.{After-event_for}
 
 -- the event that was chosen means what the numbers mean
-meant : (x : lts.After-event_for tie.the-claims reads.Pre reads.Post tie.handed_clauses) (y : Chosen) → x.event_for.result ≡ y → meaning_for x.args.kind x.args.value x.args.bytes.now ≡ chosen_meaning y x.args.bytes.now
-meant x y e =
-    let s = x.args.bytes.now in
-    sym (x.event_for.ensures s) ∙ ap (λ (z : Chosen). chosen_meaning z s) e
+meant : (c : goal.After-event_for) (y : Chosen) → c.event_for.result ≡ y → meaning_for c.args.kind c.args.value c.args.bytes.now ≡ chosen_meaning y c.args.bytes.now
+meant c y e =
+    let s = c.args.bytes.now in
+    sym (c.event_for.ensures s) ∙ ap (λ (z : Chosen). chosen_meaning z s) e
 
 pub returns-then-builder-lt-WORDS : goal.returns-then-builder-lt-WORDS
 unfolding call_of called_words called_tape numbers_by no_numbers first_number second_number
@@ -34,7 +31,7 @@ pub returns-in_default : goal.returns-in_default
 unfolding call_of called_words called_tape numbers_by no_numbers first_number second_number meant_call meant_words meant_tape chosen_meaning
 returns-in_default c =
     let e = le-ltb _ _ c.if-builder-lt-WORDS.false in
-    let m = meant c.before.before.before NoEvent c.in_default.is in
+    let m = meant (goal.at.returns-in_default c).After-event_for NoEvent c.in_default.is in
     (record { value = rw (e, m) c.refused-in_default.ensures; builder_after = rw (e, m); tape_after = rw (e, m) })
 
 pub returns : goal.returns
@@ -45,7 +42,17 @@ returns c =
     let t = a.tape.now in
     let x : Meaning = meaning_of c.in-Event.event a.bytes.now in
     let e = le-ltb _ _ c.if-builder-lt-WORDS.false in
-    let m = meant c.before.before.before.before.before.before.before.before.before.before.before.before.before (Event c.in-Event.event) c.in-Event.is in
+    let m = meant (goal.at.returns c).After-event_for (Event c.in-Event.event) c.in-Event.is in
     let l : c.load.result ≡ builder_in w = loaded w e c.load.ensures in
     let b = c.value-built.result in
-    let n = length t in (record { value = rw (e, m) (c.answered.ensures ∙ ap numbers_by (c.value-built.ensures.answer_value ∙ ap (λ (y : Builder). build_of y n x) l)); builder_after = rw (e, m) (c.keep.ensures ∙ ap (λ (y : Said). words_by y w b.builder) c.value-built.ensures.answer_value ∙ ap (λ (y : Builder). words_by (build_of c.load.result n x) w y) c.value-built.ensures.builder_value ∙ ap (λ (y : Builder). words_by (build_of y n x) w (builder_after y n x)) l); tape_after = rw (e, m) (c.value-built.ensures.tape_after ∙ ap (λ (y : Builder). tape_after y t x) l) })
+    let n = length t in
+    record {
+      value = rw (e, m) (c.answered.ensures ∙ ap numbers_by (c.value-built.ensures.answer_value ∙ ap (λ (y : Builder). build_of y n x) l));
+      builder_after =
+          rw (e, m)
+          (c.keep.ensures ∙
+          ap (λ (y : Said). words_by y w b.builder) c.value-built.ensures.answer_value ∙
+          ap (λ (y : Builder). words_by (build_of c.load.result n x) w y) c.value-built.ensures.builder_value ∙
+          ap (λ (y : Builder). words_by (build_of y n x) w (builder_after y n x)) l);
+      tape_after = rw (e, m) (c.value-built.ensures.tape_after ∙ ap (λ (y : Builder). tape_after y t x) l);
+    }

@@ -2,7 +2,6 @@
 use Rattle.builder.specs.Finish.{finished_said}
 use Rattle.exports_build.specs.Build.{no_numbers, written_numbers}
 use Rattle.exports.specs.Write.{first_number, second_number, write_code, write_value, expected_number, found_number}
-use borrow.Author.Rules.{rules}
 use Rattle.exports_build.proofs.build.file_numbers.Goals as goal
 
 pub returns-in_default : goal.returns-in_default

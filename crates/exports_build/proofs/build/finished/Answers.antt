@@ -7,7 +7,6 @@ use Rattle.builder.specs.WordsLaws.{loaded}
 use Rattle.builder.specs.declared.state.Builder.{Builder}
 use Rattle.exports_build.specs.Build.{no_numbers, written_numbers, finish_call, finished_output, finished_used}
 use Rattle.exports.specs.Write.{first_number, second_number, write_code, write_value, expected_number, found_number}
-use borrow.Author.Rules.{rules}
 use Rattle.exports_build.proofs.build.finished.Goals as goal
 
 pub returns-then-builder-lt-WORDS : goal.returns-then-builder-lt-WORDS
@@ -22,4 +21,9 @@ returns c =
     let a = c.args in
     let e = le-ltb _ _ c.if-builder-lt-WORDS.false in
     let l = loaded a.builder.now e c.load.ensures in
-    let n = length a.work.now in (record { value = rw e (c.file_numbers.ensures ∙ ap written_numbers (c.finish.ensures.result_value ∙ ap (λ (b : Builder). finish_of b a.tape.now n (length a.out.now)) l)); out_after = rw e (c.finish.ensures.out_after ∙ ap (λ (b : Builder). finish_output b a.tape.now n a.out.now) l); work_unchanged = rw (e, ← l) c.finish.ensures.work_unchanged })
+    let n = length a.work.now in
+    record {
+      value = rw e (c.file_numbers.ensures ∙ ap written_numbers (c.finish.ensures.result_value ∙ ap (λ (b : Builder). finish_of b a.tape.now n (length a.out.now)) l));
+      out_after = rw e (c.finish.ensures.out_after ∙ ap (λ (b : Builder). finish_output b a.tape.now n a.out.now) l);
+      work_unchanged = rw (e, ← l) c.finish.ensures.work_unchanged;
+    }

@@ -1,7 +1,6 @@
 -- `keep`: the words change where an event was taken.
 use Rattle.builder.specs.Build.{answer_said}
 use Rattle.exports_build.specs.Build.{words_by}
-use borrow.Author.Rules.{rules}
 use Rattle.exports_build.proofs.build.keep.Goals as goal
 
 pub returns-in-Held : goal.returns-in-Held

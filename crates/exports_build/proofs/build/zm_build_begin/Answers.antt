@@ -4,7 +4,6 @@ use borrow.Author.Tests.{lt-ltb, le-ltb}
 use Rattle.builder.specs.Words.{store_of}
 use Rattle.builder.specs.declared.state.Builder.{Builder}
 use Rattle.exports_build.specs.Build.{begin_code, begun_words}
-use borrow.Author.Rules.{rules}
 use Rattle.exports_build.proofs.build.zm_build_begin.Goals as goal
 
 pub returns-then-builder-lt-WORDS : goal.returns-then-builder-lt-WORDS
