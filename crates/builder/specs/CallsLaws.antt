@@ -30,13 +30,13 @@ use Rattle.grammar.specs.declared.way.Way.{Way}
 use Rattle.grammar.specs.declared.way.Way.TheVariants.{Past, Into, Out, Barred}
 use Rattle.tape.specs.Append as append
 use Rattle.tape.specs.Append.{fits, put_of, put_to, append_of, append_to}
-use Rattle.tape.specs.AppendLaws.{append_held}
-use Rattle.tape.specs.BadLaws.{bad_here}
+use Rattle.tape.proofs.AppendLaws.{append_held}
+use Rattle.tape.proofs.BadLaws.{bad_here}
 use Rattle.tape.specs.BytesLaws.{Sound, sound_bytes}
 use Rattle.tape.specs.Code.{bytes_for, allowed}
-use Rattle.tape.specs.CodeLaws.{bytes_some}
+use Rattle.tape.proofs.CodeLaws.{bytes_some}
 use Rattle.tape.specs.Events.{tape_of}
-use Rattle.tape.specs.EventsLaws.{AllOnTape, all_append, tape_append}
+use Rattle.tape.proofs.EventsLaws.{AllOnTape, all_append, tape_append}
 use Rattle.writer.specs.Write.{write_of, output_of, used_of}
 use Rattle.builder.specs.Build.{Said, holds, refused, judge_of, fitted_of, by_way, build_of, tape_by, tape_after, builder_by, builder_after}
 use Rattle.builder.specs.FitLaws.{Fits, way_fits}

@@ -5,7 +5,7 @@ use Prim.Native.Nat.{ℕ}
 use Rattle.object.specs.FoundLaws.{found_of_one}
 use Rattle.layout.specs.SaidLaws.{look_one, trailer_one, due_said_one}
 use Rattle.reader.specs.SaidLaws.{step_said_one, text_said_one}
-use Rattle.tape.specs.AppendLaws.{said_one}
+use Rattle.tape.proofs.AppendLaws.{said_one}
 use Rattle.tape.specs.SaidLaws.{step_said_one as tape-step-one}
 use Rattle.transcribe.specs.Run.{Run}
 use Rattle.transcribe.specs.SaidLaws.{end_said_one}

@@ -182,6 +182,6 @@ ends_first file (call.entering short l root says s k offset look e) =
     later (1 + left file r) _ (omega (arith, first_weighs file l root k offset))
     (fuel file (left file r) 1 (subst (λ (x : Reader). Open file x) (sym q) (open_first file short l root says s k offset look)) (subst (λ (x : Reader). left file x ≤ left file r) (sym q) (omega arith)))
 
--- every file comes to its end: within (length + 2) ^ (maxOpen + 1) calls the answer is ended or a refusal
+-- every file comes to its end: within (length + 2) ^ (max_open + 1) calls the answer is ended or a refusal
 pub ends_by : (file : List ℕ) → EndsBy file ((length file + 2) ^ (max_open + 1))
 ends_by file = ends_first file (first file)

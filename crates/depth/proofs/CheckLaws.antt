@@ -1,4 +1,4 @@
--- THE CHECK of a tape of arrays that stand inside each other, however many they are: it is whole exactly where they are 1 to maxOpen.
+-- THE CHECK of a tape of arrays that stand inside each other, however many they are: it is whole exactly where they are 1 to max_open.
 use Rattle.std.specs.Prelude.{Bool, true, false, cond, List, [], ◌∷◌, ◌++◌, ◌↔◌, ◌≡◌, refl, ℕ, zero, suc, ◌+◌, ◌-◌, ◌≤◌, ◌<◌, ltb, leb, length, take, replicate}
 use Rattle.std.proofs.Math.Option.{none}
 use Rattle.std.proofs.Common.{sym, ap, ◌∙◌, zero-add, arith, le-leb, ne_eqb, ltb-false, leb-true, leb-false, lit<, lit≤, length-append}
@@ -9,7 +9,7 @@ use Rattle.event.specs.Format.{max_length, max_open}
 use Rattle.event.specs.Meaning.{Meaning, array, close}
 use Rattle.tape.specs.Code.{bytes_for, allowed}
 use Rattle.tape.specs.Events.{whole, events_of, tape_of}
-use Rattle.tape.specs.EventsLaws.{AllOnTape, tape_whole, tape_append}
+use Rattle.tape.proofs.EventsLaws.{AllOnTape, tape_whole, tape_append}
 use Rattle.grammar.specs.Check.{move_of, check_of}
 use Rattle.grammar.specs.FitsLaws.{check_whole}
 use Rattle.grammar.specs.Said as check
@@ -185,7 +185,7 @@ checked n = go (ltb max_length (n + n)) refl
     go true e = rw (length_arrays n, e)
     go false e = checked_short n (ltb-false max_length (n + n) e)
 
--- so the tape is whole exactly where there are 1 to maxOpen
+-- so the tape is whole exactly where there are 1 to max_open
 pub whole_exactly : (n : ℕ) → ((m : ℕ) × (check_of (arrays n) ≡ check.whole m)) ↔ ((0 < n) × (n ≤ max_open))
 whole_exactly n = (only n, are n)
   where

@@ -1,4 +1,4 @@
--- THE READER on the file of more than maxOpen arrays that stand inside each other: it gives maxOpen of them, and refuses the next with 15, at its offset.
+-- THE READER on the file of more than max_open arrays that stand inside each other: it gives max_open of them, and refuses the next with 15, at its offset.
 use Rattle.std.specs.Prelude.{Bool, true, false, ◌≡◌, eqb, get_or, replicate}
 use mathlib.Core.List.{List, [], ◌∷◌, ◌++◌}
 use Rattle.std.proofs.Math.Option.{some}

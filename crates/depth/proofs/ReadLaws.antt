@@ -1,4 +1,4 @@
--- THE READER on the file of 1 to maxOpen arrays that stand inside each other: it gives them all, then the end for ever.
+-- THE READER on the file of 1 to max_open arrays that stand inside each other: it gives them all, then the end for ever.
 use mathlib.Core.List.{List, [], ◌∷◌, ◌++◌}
 use Rattle.std.proofs.Math.Option.{some}
 use Rattle.std.specs.Prelude.{◌≡◌, replicate}

@@ -1,4 +1,4 @@
--- THE WRITER on a tape of arrays that stand inside each other: 1 to maxOpen of them are written; with more 15 comes at the first too many.
+-- THE WRITER on a tape of arrays that stand inside each other: 1 to max_open of them are written; with more 15 comes at the first too many.
 use Rattle.std.specs.Prelude.{[], ◌≡◌}
 use Prim.Native.Nat.{ℕ, suc, ◌+◌, ◌*◌, ◌≤◌, ◌<◌}
 use Rattle.std.proofs.Common.{mul-le-mul_left, arith}

@@ -12,7 +12,7 @@ use Rattle.number.specs.Be.{bytes_of}
 use Rattle.number.specs.BeLaws.{Bytes, length_bytes_of}
 use Rattle.number.specs.Signed.{bits_of}
 use Rattle.tape.specs.Code.{bytes_for, allowed, OnTape}
-use Rattle.tape.specs.FormLaws.{reads_written}
+use Rattle.tape.proofs.FormLaws.{reads_written}
 use Rattle.tape.specs.Item.{event, read_at}
 use Rattle.tape.specs.Seven.{seven}
 use Rattle.tape.specs.SevenLaws.{seven_some}

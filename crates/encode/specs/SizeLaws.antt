@@ -9,10 +9,10 @@ use Rattle.std.proofs.Math.ListN.{length}
 use Rattle.number.specs.BeLaws.{Bytes, length_bytes_of}
 use Rattle.event.specs.Meaning.{Meaning, array, dictionary, close, boolean, bytes, date, integer, real, text, uid}
 use Rattle.tape.specs.Code.{bytes_for, allowed, OnTape}
-use Rattle.tape.specs.FormLaws.{Stands, reads_written}
+use Rattle.tape.proofs.FormLaws.{Stands, reads_written}
 use Rattle.tape.specs.Item.{event, read_at}
 use Rattle.tape.specs.Seven.{seven}
-use Rattle.tape.specs.StandsLaws.{kind_inside, kind_there, number_there, run_there}
+use Rattle.tape.proofs.StandsLaws.{kind_inside, kind_there, number_there, run_there}
 use Rattle.tape.specs.Value.{number_at}
 use Rattle.tape.specs.declared.value.Value.TheVariants.{Of}
 use Rattle.utf.specs.ToUtf16.{units_in}

@@ -5,7 +5,7 @@ use Rattle.std.proofs.Common.{sym, ap, ◌∙◌, arith, ne_eqb}
 use Rattle.number.specs.BeLaws.{Bytes}
 use Rattle.tape.specs.Item.{item_at}
 use Rattle.tape.specs.ItemLaws.{item_reads}
-use Rattle.tape.specs.SameLaws.{item_within}
+use Rattle.tape.proofs.SameLaws.{item_within}
 use Rattle.tape.specs.declared.item.Step.{Step}
 use Rattle.tape.specs.declared.item.Step.TheVariants.{Item, Bad}
 use Rattle.exports.specs.Codes.{Lent}

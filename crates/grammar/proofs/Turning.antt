@@ -8,7 +8,7 @@ use Rattle.event.specs.Meaning.{meaning_of}
 use Rattle.number.specs.BeLaws.{Bytes}
 use Rattle.tape.specs.Item.{item_at, meaning_in, Reading, event, bad, read_at}
 use Rattle.tape.specs.ItemLaws.{item_reads, bad_reads}
-use Rattle.tape.specs.SameLaws.{item_within}
+use Rattle.tape.proofs.SameLaws.{item_within}
 use Rattle.tape.specs.declared.item.Item.{Item}
 use Rattle.tape.specs.declared.item.Step.TheVariants.{Item as ItemOf, Bad}
 use Rattle.grammar.specs.Turn.{is_nothing, Turned, stopped_at, turn_by, turn_at}

@@ -13,9 +13,9 @@ use Rattle.event.specs.Format.{max_length}
 use Rattle.event.specs.Meaning.{Meaning}
 use Rattle.tape.specs.Code.{bytes_for, OnTape}
 use Rattle.tape.specs.Events.{whole, broken, events_of, tape_of, meant_by, meanings_in, is_broken, start_at}
-use Rattle.tape.specs.EventsLaws.{AllOnTape, all_append, tape_append, tape_whole, tape_broken}
+use Rattle.tape.proofs.EventsLaws.{AllOnTape, all_append, tape_append, tape_whole, tape_broken}
 use Rattle.tape.specs.Item as item
-use Rattle.tape.specs.StartLaws.{Among}
+use Rattle.tape.proofs.StartLaws.{Among}
 use Rattle.grammar.specs.Check.{Move, onto, barred, move_of, check_of}
 use Rattle.grammar.specs.More.{leads, behind, more_of, more_said}
 use Rattle.grammar.specs.Said.{refused_at}

@@ -12,7 +12,7 @@ use Rattle.event.specs.Format.{max_length}
 use Rattle.event.specs.Meaning.{Meaning}
 use Rattle.event.specs.Unmeasured.{unmeasured}
 use Rattle.tape.specs.Events.{Events, whole, broken, before, events_from, events_of, tape_of, meant_by, meanings_in, is_broken, start_at}
-use Rattle.tape.specs.FormLaws.{reads_written}
+use Rattle.tape.proofs.FormLaws.{reads_written}
 use Rattle.tape.specs.Item.{Reading, event, bad, read_at}
 use Rattle.grammar.specs.Check.{Move, onto, barred, move_of, finish_of, check_from, check_of}
 use Rattle.grammar.specs.Said.{refused_at}

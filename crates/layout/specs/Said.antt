@@ -1,6 +1,6 @@
 -- What is looked up, what is due, and a trailer, in the numbers, values and places of table N of docs/FORMAT.md.
 use Rattle.std.specs.Prelude.{List, [], ℕ}
-use Rattle.object.specs.Refusal.{number_of as objectNumber, values_of as objectValues}
+use Rattle.object.specs.Refusal.{number_of as object_number, values_of as object_values}
 use Rattle.layout.specs.Bytes.{Asked, in_file, in_utf16, no_bytes, denied}
 use Rattle.layout.specs.Looked.{Looked, faulty, scalar, container, Shape, array, dictionary}
 use Rattle.layout.specs.Trailer.{Trailer, keeps, ends, lays}
@@ -25,7 +25,7 @@ number_of InvalidMagic = 3
 number_of InvalidTrailerObjectOffsetSize = 4
 number_of InvalidTrailerObjectReferenceSize = 5
 number_of ObjectReferenceTooLarge = 7
-number_of (Object r) = objectNumber r
+number_of (Object r) = object_number r
 
 unfoldable pub values_of : Refusal → List ℕ
 values_of TooLong = []
@@ -34,7 +34,7 @@ values_of InvalidMagic = []
 values_of InvalidTrailerObjectOffsetSize = []
 values_of InvalidTrailerObjectReferenceSize = []
 values_of ObjectReferenceTooLarge = []
-values_of (Object r) = objectValues r
+values_of (Object r) = object_values r
 
 unfoldable pub shape_said : ShapeRead → Shape
 shape_said Array = array

@@ -2,7 +2,7 @@
 use Rattle.std.specs.Prelude.{true, cond, List, ◌≡◌, refl, ℕ, eqb}
 use Rattle.std.proofs.Common.{sym, ap, ◌∙◌, ne_eqb}
 use Rattle.number.specs.Among.{among, among_not}
-use Rattle.object.specs.Refusal.{object_refusals, number_of as objectNumber}
+use Rattle.object.specs.Refusal.{object_refusals, number_of as object_number}
 use Rattle.object.specs.RefusalLaws.{refusal_from as object_from, refusal_again as object_again, refusal_listed as object-listed}
 use Rattle.layout.specs.Bytes.{Asked, in_file, in_utf16, no_bytes, denied}
 use Rattle.layout.specs.Looked.{Looked, barred, missing, faulty, scalar, container, Shape, array, dictionary}
@@ -52,7 +52,7 @@ number_listed InvalidMagic = refl
 number_listed InvalidTrailerObjectOffsetSize = refl
 number_listed InvalidTrailerObjectReferenceSize = refl
 number_listed ObjectReferenceTooLarge = refl
-number_listed (Object r) = file_refusal (objectNumber r) (object_refusal (objectNumber r) (object-listed r))
+number_listed (Object r) = file_refusal (object_number r) (object_refusal (object_number r) (object-listed r))
 
 -- where bytes stand, what is looked up, what is due, and a trailer, from what they say
 span_from : Asked → Span

@@ -6,7 +6,7 @@ use Rattle.std.proofs.Math.Option.{Option, none, some}
 use Rattle.number.specs.BeLaws.{Bytes}
 use Rattle.event.specs.Meaning.{Meaning}
 use Rattle.tape.specs.Events.{tape_of, meant_by, meanings_in}
-use Rattle.tape.specs.EventsLaws.{whole_is}
+use Rattle.tape.proofs.EventsLaws.{whole_is}
 use Rattle.tape.specs.Value.{number_at}
 use Rattle.tape.specs.declared.value.Value.TheVariants as value
 use Rattle.grammar.specs.Check.{check_of}

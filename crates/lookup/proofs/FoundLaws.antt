@@ -10,7 +10,7 @@ use Rattle.number.specs.Part.{part}
 use Rattle.number.specs.PartLaws.{length_part}
 use Rattle.event.specs.Meaning.{Meaning, array, dictionary, close, boolean, bytes, date, integer, real, text, uid}
 use Rattle.tape.specs.Events.{whole, events_of, tape_of, meant_by, meanings_in}
-use Rattle.tape.specs.EventsLaws.{AllOnTape, tape_whole, tape_append}
+use Rattle.tape.proofs.EventsLaws.{AllOnTape, tape_whole, tape_append}
 use Rattle.written.specs.Graph.{same_bytes}
 use Rattle.grammar.specs.Check.{move_of, check_of}
 use Rattle.grammar.specs.Fits.{fits_from}

@@ -5,7 +5,7 @@ use Rattle.std.proofs.Common.{ap, sym, ◌∙◌, arith, eq-eqb, ne_eqb, length-
 use Rattle.event.specs.Meaning.{Meaning, array, dictionary, close, boolean, bytes, date, integer, real, text, uid}
 use Rattle.tape.specs.Code.{bytes_for}
 use Rattle.tape.specs.Events.{tape_of}
-use Rattle.tape.specs.EventsLaws.{tape_append}
+use Rattle.tape.proofs.EventsLaws.{tape_append}
 use Rattle.written.specs.Graph.{same_bytes}
 use Rattle.lookup.specs.Value.{deeper, value_from, behind, under_key, into}
 

@@ -8,9 +8,9 @@ use lib.Dec.{ltb}
 use lib.ListN.{length, get_or}
 use Rattle.event.specs.Meaning.{Meaning}
 use Rattle.tape.specs.Code.{bytes_for}
-use Rattle.tape.specs.CodeLaws.{bytes_some}
+use Rattle.tape.proofs.CodeLaws.{bytes_some}
 use Rattle.tape.specs.End.{end_of}
-use Rattle.tape.specs.EndLaws.{end_reads}
+use Rattle.tape.proofs.EndLaws.{end_reads}
 use Rattle.tape.specs.Item.{event, read_at}
 use Rattle.tape.specs.declared.end.End.{End}
 use Rattle.tape.specs.declared.end.End.TheVariants.{At, NoEvent}

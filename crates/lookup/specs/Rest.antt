@@ -4,7 +4,7 @@ use Rattle.std.proofs.Math.Option.{Option, none, some}
 use Rattle.number.specs.BeLaws.{Bytes}
 use Rattle.event.specs.Meaning.{Meaning}
 use Rattle.tape.specs.Events.{tape_of, meanings_in}
-use Rattle.tape.specs.EventsLaws.{AllOnTape}
+use Rattle.tape.proofs.EventsLaws.{AllOnTape}
 use Rattle.lookup.specs.declared.seek.Place.{Place}
 use Rattle.lookup.specs.declared.seek.Place.TheVariants.{At, Nowhere}
 

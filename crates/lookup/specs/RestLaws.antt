@@ -8,12 +8,12 @@ use Rattle.std.proofs.Math.ListN.{length, take, length-append, take-append-drop}
 use Rattle.std.proofs.Math.Seq.{length-take-le, drop_at}
 use Rattle.event.specs.Meaning.{Meaning, array, dictionary, close, boolean, bytes, date, integer, real, text, uid}
 use Rattle.tape.specs.Code.{bytes_for}
-use Rattle.tape.specs.CodeLaws.{reads_back, bytes_some}
+use Rattle.tape.proofs.CodeLaws.{reads_back, bytes_some}
 use Rattle.tape.specs.Events.{tape_of, meant_by, meanings_in}
-use Rattle.tape.specs.EventsLaws.{tape_whole}
-use Rattle.tape.specs.FormLaws.{Stands}
+use Rattle.tape.proofs.EventsLaws.{tape_whole}
+use Rattle.tape.proofs.FormLaws.{Stands}
 use Rattle.tape.specs.Item.{event, read_at}
-use Rattle.tape.specs.StandsLaws.{kind_there}
+use Rattle.tape.proofs.StandsLaws.{kind_there}
 use Rattle.lookup.specs.Rest.{events_at, Rest, deeper_by}
 use Rattle.lookup.specs.Value.{deeper}
 

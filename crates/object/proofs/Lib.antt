@@ -1,3 +1,4 @@
 pub mod Containers
 pub mod Room
 pub mod Wide
+pub mod EndLaws

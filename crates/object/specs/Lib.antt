@@ -6,7 +6,6 @@ pub mod Content
 pub mod ContentLaws
 pub mod EightLaws
 pub mod End
-pub mod EndLaws
 pub mod Found
 pub mod FoundLaws
 pub mod Kind

@@ -6,7 +6,7 @@ use Rattle.plainly.specs.Plain.{Plainly}
 use Rattle.plainly.specs.SaidLaws.{ending_said_one}
 use Rattle.plainly.specs.declared.Reading.{Reading}
 use Rattle.reader.proofs.One.{One}
-use Rattle.tape.specs.AppendLaws.{said_one}
+use Rattle.tape.proofs.AppendLaws.{said_one}
 use Rattle.tape.proofs.utf16.append_utf16.Kinds as append-utf16-kinds
 use Rattle.tape.proofs.utf16.append_utf16.Reads as append-utf16-reads
 use Rattle.reader.proofs.opened.is_among.Kinds as is-among-kinds

@@ -1,7 +1,7 @@
 -- What the answers say in the numbers, values and places of docs/FORMAT.md, N.
 use Rattle.std.specs.Prelude.{List, [], ℕ}
 use Rattle.layout.specs.Bytes.{Asked, in_file, in_utf16, no_bytes, denied}
-use Rattle.layout.specs.Said.{number_of as file_number, values_of as fileValues}
+use Rattle.layout.specs.Said.{number_of as file_number, values_of as file_values}
 use Rattle.reader.specs.Machine.{Said, event, ended, refused, Step}
 use Rattle.reader.specs.Request.{TextSaid, long, refusing}
 use Rattle.reader.specs.declared.answer.Answer.{Answer}
@@ -24,7 +24,7 @@ number_of NoRoomForText = 16
 number_of WrongFile = 17
 
 unfoldable pub values_of : Refusal → List ℕ
-values_of (File r) = fileValues r
+values_of (File r) = file_values r
 values_of RecursiveObject = []
 values_of TooDeep = []
 values_of NoRoomForText = []

@@ -3,7 +3,7 @@ ghost use Rattle.std.specs.Prelude.{◌≡◌, ◌≤◌, length};
 ghost use Rattle.layout.specs.Layout.{look_of};
 ghost use Rattle.layout.specs.Trailer.{trailer_in};
 ghost use Rattle.reader.specs.Machine.{step, origin, event_at, refused, refuse, arrive};
-ghost use Rattle.reader.specs.Next.{laid_out, begin as beginSaid, next_of};
+ghost use Rattle.reader.specs.Next.{laid_out, begin as begin_said, next_of};
 ghost use Rattle.reader.specs.Said.{number_of, values_of, said, step_said};
 ghost use Rattle.reader.specs.State.{max_length};
 
@@ -149,7 +149,7 @@ impl Reader {
 
     // The first call: the trailer, then the root.
     fn begin(self, file: &[u8]) -> Stepped
-        ensures { step_said result ≡ beginSaid file.now self (trailer_in file.now) }
+        ensures { step_said result ≡ begin_said file.now self (trailer_in file.now) }
     {
         match trailer_of(file) {
             TrailerRead::Keeps(refusal, place) => self.kept(Refusal::File(refusal), place),

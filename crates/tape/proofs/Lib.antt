@@ -1,3 +1,13 @@
 pub mod Range
 pub mod Tests
 pub mod Texts
+pub mod AppendLaws
+pub mod BadLaws
+pub mod CodeLaws
+pub mod EndLaws
+pub mod EventsLaws
+pub mod FormLaws
+pub mod PlaceLaws
+pub mod SameLaws
+pub mod StandsLaws
+pub mod StartLaws

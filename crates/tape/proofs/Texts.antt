@@ -15,7 +15,7 @@ use Rattle.utf.specs.Unicode.{is_utf16, to_utf8}
 use Rattle.utf.proofs.Writing.{sets_append}
 use Rattle.event.specs.Meaning.{text}
 use Rattle.tape.specs.Append.{Said, held, refused, fits, put_of, put_to, utf16_of, utf16_to}
-use Rattle.tape.specs.AppendLaws.{put_none, put_room}
+use Rattle.tape.proofs.AppendLaws.{put_none, put_room}
 use Rattle.tape.specs.Code.{bytes_for}
 use Rattle.tape.specs.Seven.{seven}
 

@@ -29,7 +29,7 @@ use Rattle.reader.specs.Meanings.{meaning_at, bytes_asked}
 use Rattle.reader.specs.Request.{long, refusing, length_said, scratch_after}
 use Rattle.reader.proofs.Inside.{AskedIn, event_in_law}
 use Rattle.reader.proofs.Utf16.{is_written, no_room, is_text_law, filled}
-use Rattle.tape.specs.AppendLaws.{put_event}
+use Rattle.tape.proofs.AppendLaws.{put_event}
 use Rattle.tape.specs.Append.{Said, fits, put_of, put_to, append_of, append_to}
 use Rattle.tape.specs.Code.{bytes_for, allowed}
 use Rattle.tape.specs.Seven.{seven}

@@ -5,7 +5,7 @@ use Rattle.std.proofs.Common.{sym, ◌∙◌, add-one, arith, lt-ltb, le-ltb, eq
 use Rattle.event.specs.Format.{max_length}
 use Rattle.event.specs.Meaning.{Meaning}
 use Rattle.tape.specs.End.{end_of}
-use Rattle.tape.specs.EndLaws.{end_reads}
+use Rattle.tape.proofs.EndLaws.{end_reads}
 use Rattle.tape.specs.Events.{start_at}
 use Rattle.tape.specs.declared.end.End.{End}
 use Rattle.tape.specs.declared.end.End.TheVariants.{At, NoEvent}

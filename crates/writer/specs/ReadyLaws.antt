@@ -9,11 +9,11 @@ use Rattle.std.proofs.Math.Seq.{drop-cons}
 use Rattle.event.specs.Format.{max_length}
 use Rattle.event.specs.Meaning.{Meaning, array, dictionary, close, boolean, bytes, date, integer, real, text, uid}
 use Rattle.tape.specs.Code.{bytes_for, OnTape}
-use Rattle.tape.specs.CodeLaws.{reads_back, bytes_some}
+use Rattle.tape.proofs.CodeLaws.{reads_back, bytes_some}
 use Rattle.tape.specs.Events.{tape_of, meanings_in, start_at}
-use Rattle.tape.specs.EventsLaws.{AllOnTape, whole_is, tape_append, tape_long}
+use Rattle.tape.proofs.EventsLaws.{AllOnTape, whole_is, tape_append, tape_long}
 use Rattle.tape.specs.Item.{event, read_at}
-use Rattle.tape.specs.SameLaws.{item_bytes, item_within}
+use Rattle.tape.proofs.SameLaws.{item_bytes, item_within}
 use Rattle.written.specs.Graph.{Scalar, Kind, arr, dic, Piece, scalar, start, end, piece_of, meaning_in, meant}
 use Rattle.written.proofs.NameLaws.{drop_lt}
 use Rattle.written.specs.Scalar.{IsScalar}

@@ -7,7 +7,7 @@ use Rattle.event.specs.Format.{max_open, max_length}
 use Rattle.event.specs.Meaning.{Meaning, array, dictionary, close, boolean, bytes, date, integer, real, text, uid}
 use Rattle.tape.specs.Code.{allowed}
 use Rattle.tape.specs.Events.{tape_of}
-use Rattle.tape.specs.EventsLaws.{AllOnTape, tape_whole}
+use Rattle.tape.proofs.EventsLaws.{AllOnTape, tape_whole}
 use Rattle.grammar.specs.Check.{check_of}
 use Rattle.grammar.specs.FitsLaws.{fits_check}
 use Rattle.grammar.specs.Said.{whole}

@@ -20,7 +20,7 @@ use Rattle.layout.specs.declared.layout.Entry.TheVariants.{Of}
 use Rattle.layout.specs.declared.layout.Layout.{Layout}
 use Rattle.reader.specs.Meanings.{meaning_at}
 use Rattle.tape.specs.Code.{bytes_for, allowed}
-use Rattle.tape.specs.EventsLaws.{all_dates}
+use Rattle.tape.proofs.EventsLaws.{all_dates}
 use Rattle.written.specs.File.{bytes_at, place_of, file_of, file_for}
 use Rattle.written.proofs.FileLaws.{order_some}
 use Rattle.written.specs.Graph.{Scalar, Piece, piece_of, val, box, order, number, object_of, meant}

@@ -7,7 +7,7 @@ use Rattle.std.proofs.Math.Path.{refl}
 use Rattle.std.proofs.Common.{ap, ap₂, ◌∙◌, arith}
 use Prim.Native.Nat.{ℕ, zero, suc, ◌/◌}
 use Rattle.event.specs.Meaning.{Meaning, array, dictionary, close, boolean, bytes, date, integer, real, text, uid}
-use Rattle.tape.specs.EventsLaws.{AllOnTape}
+use Rattle.tape.proofs.EventsLaws.{AllOnTape}
 use Rattle.transcribe.specs.TranscriptLaws.{meanings_of}
 use Rattle.written.specs.File.{place_of}
 use Rattle.written.specs.Graph.{arr, dic, Piece, scalar, start, end, piece_of, Name, kids, meant}

@@ -15,12 +15,12 @@ use Rattle.number.specs.BeLaws.{Bytes}
 use Rattle.event.specs.Format.{max_length}
 use Rattle.event.specs.Meaning.{Meaning, close}
 use Rattle.event.specs.Unmeasured.{unmeasured}
-use Rattle.tape.specs.CodeLaws.{bytes_some}
+use Rattle.tape.proofs.CodeLaws.{bytes_some}
 use Rattle.tape.specs.Events.{Events, whole, broken, events_of, tape_of, meant_by, meanings_in, is_broken, start_at}
-use Rattle.tape.specs.EventsLaws.{all_append, whole_is, broken_is, tape_whole, tape_broken, tape_append}
+use Rattle.tape.proofs.EventsLaws.{all_append, whole_is, broken_is, tape_whole, tape_broken, tape_append}
 use Rattle.tape.specs.Item.{bad, read_at}
-use Rattle.tape.specs.PlaceLaws.{bad_there}
-use Rattle.tape.specs.StartLaws.{Among, start_inside}
+use Rattle.tape.proofs.PlaceLaws.{bad_there}
+use Rattle.tape.proofs.StartLaws.{Among, start_inside}
 use Rattle.grammar.specs.Check.{check_of}
 use Rattle.grammar.specs.MoreLaws.{bad_stops, stops_within, stops_least, bad_or_same}
 use Rattle.grammar.specs.Said.{number_of, kinds_of, refused_at}

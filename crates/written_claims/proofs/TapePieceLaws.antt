@@ -9,7 +9,7 @@ use Rattle.event.specs.Meaning.{Meaning, array, dictionary}
 use Rattle.event.specs.Unmeasured.{unmeasured}
 use Rattle.tape.specs.Code.{bytes_for, allowed, OnTape}
 use Rattle.tape.specs.Events.{tape_of}
-use Rattle.tape.specs.EventsLaws.{AllOnTape}
+use Rattle.tape.proofs.EventsLaws.{AllOnTape}
 use Rattle.tape.specs.Item.{bad, numbered, of_kind, item_at, reading_of, read_at}
 use Rattle.tape.specs.Seven.{seven}
 use Rattle.tape.specs.Value.{number_from, number_at}

@@ -21,7 +21,7 @@ use Rattle.reader.specs.declared.state.Reader.{Reader}
 use Rattle.tape.specs.Append.{append_of, append_to, put_of, put_to, fits}
 use Rattle.tape.specs.Code.{bytes_for, allowed}
 use Rattle.tape.specs.Events.{tape_of}
-use Rattle.tape.specs.EventsLaws.{AllOnTape}
+use Rattle.tape.proofs.EventsLaws.{AllOnTape}
 use Rattle.transcribe.specs.HandedLaws.{plain_same}
 use Rattle.transcribe.specs.Note.{kept, noting, put_note, text_note, note_of, from_tape}
 use Rattle.transcribe.specs.Note as note

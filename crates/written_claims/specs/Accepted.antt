@@ -3,7 +3,7 @@ use Rattle.std.specs.Prelude.{true, List, map, ◌≡◌, ◌≤◌, length}
 use Rattle.event.specs.Format.{max_open, max_length}
 use Rattle.event.specs.Meaning.{Meaning}
 use Rattle.layout.specs.declared.layout.Layout.{Layout}
-use Rattle.tape.specs.EventsLaws.{AllOnTape}
+use Rattle.tape.proofs.EventsLaws.{AllOnTape}
 use Rattle.written.specs.File.{file_for}
 use Rattle.written.specs.Graph.{piece_of}
 use Rattle.written.specs.Shape.{whole}

@@ -5,8 +5,8 @@ use Rattle.std.proofs.lemmas.Bool.{false≢true}
 use Rattle.event.specs.Format.{max_open, max_length}
 use Rattle.event.specs.Meaning.{Meaning, array, dictionary, close, boolean, bytes, date, integer, real, text, uid}
 use Rattle.tape.specs.Code.{bytes_for, OnTape}
-use Rattle.tape.specs.CodeLaws.{reads_back}
-use Rattle.tape.specs.EventsLaws.{AllOnTape}
+use Rattle.tape.proofs.CodeLaws.{reads_back}
+use Rattle.tape.proofs.EventsLaws.{AllOnTape}
 use Rattle.tape.specs.Item.{event, read_at}
 use Rattle.written.proofs.CountLaws.{out_laid}
 use Rattle.written.specs.File.{file_of}

@@ -5,7 +5,7 @@ use Rattle.std.proofs.lemmas.List.Edits.{sets}
 use Rattle.number.specs.BeLaws.{Bytes}
 use Rattle.event.specs.Format.{max_length}
 use Rattle.tape.specs.Events.{whole, events_of, meanings_in}
-use Rattle.tape.specs.EventsLaws.{whole_is}
+use Rattle.tape.proofs.EventsLaws.{whole_is}
 use Rattle.grammar.specs.Check.{check_of}
 use Rattle.grammar.specs.FitsLaws.{fits_check}
 use Rattle.grammar.specs.Said as check

@@ -32,9 +32,9 @@ use Rattle.grammar.specs.declared.way.Way.{Way}
 use Rattle.grammar.specs.declared.way.Way.TheVariants.{Past, Into, Out, Barred as NoWay}
 use Rattle.number.specs.BeLaws.{Bytes}
 use Rattle.tape.specs.Code.{bytes_for}
-use Rattle.tape.specs.CodeLaws.{reads_back, bytes_some}
+use Rattle.tape.proofs.CodeLaws.{reads_back, bytes_some}
 use Rattle.tape.specs.Events.{tape_of, meant_by, meanings_in}
-use Rattle.tape.specs.EventsLaws.{AllOnTape, whole_is}
+use Rattle.tape.proofs.EventsLaws.{AllOnTape, whole_is}
 use Rattle.tape.specs.Item.{event, read_at}
 use Rattle.tape.specs.ItemLaws.{reads_item}
 use Rattle.xml.specs.LineLaws.{line_size_law}

@@ -17,10 +17,10 @@ use Rattle.grammar.specs.declared.way.Way.{Way}
 use Rattle.number.specs.BeLaws.{Bytes}
 use Rattle.number.specs.Part.{part}
 use Rattle.tape.specs.Code.{allowed}
-use Rattle.tape.specs.FormLaws.{reads_written, item_ends}
+use Rattle.tape.proofs.FormLaws.{reads_written, item_ends}
 use Rattle.tape.specs.Item.{bytes_at, text_in, of_kind, item_at, meaning_in, event, read_at}
 use Rattle.tape.specs.ItemLaws.{item_reads}
-use Rattle.tape.specs.SameLaws.{item_within}
+use Rattle.tape.proofs.SameLaws.{item_within}
 use Rattle.tape.specs.Value.{number_at}
 use Rattle.tape.specs.declared.item.Item.{Item}
 use Rattle.tape.specs.declared.item.Step.TheVariants.{Item as ItemOf, Bad}

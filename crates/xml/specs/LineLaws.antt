@@ -16,7 +16,7 @@ use Rattle.digits.specs.StampLaws.{length_stamp}
 use Rattle.event.specs.Meaning.{Meaning, array, dictionary, close, boolean, bytes, date, integer, real, text, uid}
 use Rattle.grammar.specs.declared.turn.Due.{Due}
 use Rattle.tape.specs.Code.{bytes_for, InRange}
-use Rattle.tape.specs.CodeLaws.{bytes_some}
+use Rattle.tape.proofs.CodeLaws.{bytes_some}
 use Rattle.tape.specs.Seven.{seven}
 use Rattle.utf.specs.Unicode.{is_utf8}
 use Rattle.xml.specs.BarLaws.{bars_tell}

@@ -16,7 +16,7 @@ use Rattle.grammar.specs.declared.turn.Due.TheVariants.{Root}
 use Rattle.number.specs.BeLaws.{Bytes}
 use Rattle.tape.specs.Code.{bytes_for, OnTape}
 use Rattle.tape.specs.Events.{tape_of, meant_by, meanings_in}
-use Rattle.tape.specs.EventsLaws.{AllOnTape, whole_is}
+use Rattle.tape.proofs.EventsLaws.{AllOnTape, whole_is}
 use Rattle.tape.specs.Seven.{seven}
 use Rattle.xml.specs.SameLaws.{AllSayable}
 use Rattle.xml.specs.ShownLaws.{Sayable}

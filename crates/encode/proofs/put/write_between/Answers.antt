@@ -5,7 +5,7 @@ use native.Mathlib.Omega.{arith}
 use borrow.Rule.Slice.PartMut.{put_mid, mid_len}
 use Rattle.number.specs.Be.{bytes_of}
 use Rattle.number.specs.BeLaws.{length_bytes_of}
-use Rattle.tape.specs.AppendLaws.{put_part}
+use Rattle.tape.proofs.AppendLaws.{put_part}
 use Rattle.encode.proofs.put.write_between.Goals as goal
 
 pub returns : goal.returns

@@ -10,7 +10,7 @@ use lib.Dec.{ltb}
 use lib.ListN.{length}
 use Rattle.number.specs.BeLaws.{Bytes, bytes_of_law}
 use Rattle.number.specs.PartLaws.{length_part}
-use Rattle.tape.specs.StandsLaws.{number_far}
+use Rattle.tape.proofs.StandsLaws.{number_far}
 use Rattle.tape.specs.Value.{number_at}
 use Rattle.tape.specs.declared.value.Value.{Value}
 use Rattle.tape.specs.declared.value.Value.TheVariants.{Of}

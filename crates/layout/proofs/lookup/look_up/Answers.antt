@@ -3,7 +3,7 @@ use mathlib.Core.Path.{◌≡◌, sym, ap, ◌∙◌}
 use borrow.Author.Tests.{le-ltb, lt-ltb}
 use Rattle.object.specs.Found.{found_of}
 use Rattle.object.specs.Object.{Found, refused_by}
-use Rattle.object.specs.Refusal.{number_of as objectNumber, values_of as objectValues}
+use Rattle.object.specs.Refusal.{number_of as object_number, values_of as object_values}
 use Rattle.layout.specs.Bytes.{looked_bytes}
 use Rattle.layout.specs.FoundLaws.{found_bytes}
 use Rattle.layout.specs.Layout.{look_of, look_from, look_in}
@@ -36,7 +36,7 @@ returns-in_default c =
     (record { result_value = rw (lt-ltb _ _ c.if-layout-object.false, e); result_value_2 = rw (lt-ltb _ _ c.if-layout-object.false, e) })
 
 pub returns-in-Outside : goal.returns-in-Outside
-unfolding with_place look_in found_bytes look_said look_bytes span_said shape_said found_of number_of values_of objectNumber objectValues
+unfolding with_place look_in found_bytes look_said look_bytes span_said shape_said found_of number_of values_of object_number object_values
 returns-in-Outside c = let both = says (goal.at.returns-in-Outside c).After-object_at _ (ap found_of c.in-Outside.is) in record { result_value = both.0; result_value_2 = both.1 }
 
 pub returns-in-Refused : goal.returns-in-Refused

@@ -5,14 +5,14 @@ use borrow.Author.Tests.{le-leb, lt-leb}
 use lib.ListN.{length}
 use Rattle.number.specs.Width.{bytes_in}
 use Rattle.number.specs.WidthLaws.{bytes_in_pos}
-use Rattle.object.specs.Refusal.{number_of as objectNumber, values_of as objectValues}
+use Rattle.object.specs.Refusal.{number_of as object_number, values_of as object_values}
 use Rattle.layout.specs.Said.{trailer_said, number_of, values_of}
 use Rattle.layout.specs.Trailer.{table_of, eight_at}
 use Rattle.layout.proofs.Numbers.{table_in, table_past, count_le}
 use Rattle.layout.proofs.trailer.read_table.Goals as goal
 
 pub returns-then-top-table : goal.returns-then-top-table
-unfolding trailer_said number_of values_of objectNumber objectValues table_of eight_at
+unfolding trailer_said number_of values_of object_number object_values table_of eight_at
 returns-then-top-table c =
     let a = c.args in
     let e = c.eight_at-count.ensures in
@@ -24,7 +24,7 @@ pub nonzero_div-top : goal.nonzero_div-top
 nonzero_div-top c = rw c.bytes_in.ensures (bytes_in_pos c.args.offsets)
 
 pub returns-then-top-table-2 : goal.returns-then-top-table-2
-unfolding trailer_said number_of values_of objectNumber objectValues table_of eight_at
+unfolding trailer_said number_of values_of object_number object_values table_of eight_at
 returns-then-top-table-2 c =
     let a = c.args in
     let e = c.eight_at-count.ensures in

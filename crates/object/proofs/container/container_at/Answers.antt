@@ -2,7 +2,6 @@
 use mathlib.Core.Path.{◌≡◌, sym, ap, ◌∙◌}
 use Prim.Native.Nat.{◌<◌}
 use native.Mathlib.Omega.{arith}
-use borrow.Author.Rules.{rules}
 use lib.ListN.{get_or}
 use Rattle.object.specs.Container.{array_of, dictionary_of, container_of, container_at}
 use Rattle.object.specs.ContainerLaws.{container_outside, container_inside}

@@ -1,6 +1,5 @@
 -- `be_at` reads eight bytes and drops those behind the number.
 use native.Mathlib.Omega.{arith}
-use borrow.Author.Rules.{rules}
 use Rattle.number.specs.BeLaws.{bytes_of_law}
 use Rattle.object.specs.EightLaws.{shifted}
 use Rattle.object.proofs.content.be_at.Goals as goal

@@ -1,6 +1,5 @@
 -- `content_at`: what the head tells, where there is room for it.
 use mathlib.Core.Path.{sym, ◌∙◌}
-use borrow.Author.Rules.{rules}
 use Rattle.object.specs.Content.{measured, content_at}
 use Rattle.object.proofs.content.content_at.Goals as goal
 

@@ -1,7 +1,6 @@
 -- `extent_at`: the low four bits are the length, or the bytes behind them.
 use Prim.Native.Nat.{◌≤◌, ◌<◌}
 use native.Mathlib.Omega.{arith}
-use borrow.Author.Rules.{rules}
 use borrow.Author.Tests.{eq-eqb, ne_eqb}
 use Rattle.object.specs.Content.{extent_at}
 use Rattle.object.specs.ContentLaws.{length_width_pos, length_width_le}

@@ -1,5 +1,4 @@
 -- `has_length`: the marker has the length, or the byte behind it is one of four.
-use borrow.Author.Rules.{rules}
 use borrow.Author.Tests.{eq-eqb, ne_eqb, le-leb, lt-leb}
 use Rattle.object.specs.Content.{is_length_byte, has_length}
 use Rattle.object.proofs.content.has_length.Goals as goal

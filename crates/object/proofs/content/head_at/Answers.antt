@@ -1,6 +1,5 @@
 -- `head_at`: the extent, where a length stands where it should.
 use mathlib.Core.Path.{sym, ◌∙◌}
-use borrow.Author.Rules.{rules}
 use Rattle.object.specs.Content.{head_at}
 use Rattle.object.proofs.content.head_at.Goals as goal
 

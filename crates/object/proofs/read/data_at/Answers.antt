@@ -1,6 +1,5 @@
 -- `data_at`: the content, where it has room.
 use mathlib.Core.Path.{sym, ◌∙◌}
-use borrow.Author.Rules.{rules}
 use Rattle.object.specs.Found.{found_of}
 use Rattle.object.specs.Object.{data_in}
 use Rattle.object.proofs.read.data_at.Goals as goal

@@ -1,6 +1,5 @@
 -- `date`: the date of the bits, where they may be one's.
 use mathlib.Core.Path.{sym, ◌∙◌}
-use borrow.Author.Rules.{rules}
 use Rattle.object.specs.Found.{found_of}
 use Rattle.object.specs.Object.{date_of}
 use Rattle.object.proofs.read.date.Goals as goal

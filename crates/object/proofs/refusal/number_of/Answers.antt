@@ -1,6 +1,5 @@
 -- `number_of` gives each refusal its number.
 use Rattle.object.specs.Refusal.{number_of}
-use borrow.Author.Rules.{rules}
 use Rattle.object.proofs.refusal.number_of.Goals as goal
 
 pub returns-in-ObjectOffsetTooLarge : goal.returns-in-ObjectOffsetTooLarge

@@ -2,10 +2,10 @@
 use Prim.Native.Nat.{ℕ}
 use mathlib.Core.Path.{◌≡◌, refl}
 use lib.ListN.{get_or}
-use Rattle.object.specs.Refusal.{values_of as objectValues}
+use Rattle.object.specs.Refusal.{values_of as object_values}
 use Rattle.object.specs.declared.refusal.Refusal.{Refusal as ObjectRefusal}
 use Rattle.object.specs.declared.refusal.Refusal.TheVariants.{ObjectOffsetTooLarge, NullObjectUnimplemented, FillObjectUnimplemented, UnknownObjectType, IntegerOutOfRange, InvalidUtf8String, InvalidUtf16String, InvalidObjectLength, OverflowOrNanDate}
-use Rattle.layout.specs.Said.{values_of as fileValues}
+use Rattle.layout.specs.Said.{values_of as file_values}
 use Rattle.layout.specs.declared.refusal.Refusal.{Refusal as FileRefusal}
 use Rattle.layout.specs.declared.refusal.Refusal.TheVariants.{TooLong, EndOfInput, InvalidMagic, InvalidTrailerObjectOffsetSize, InvalidTrailerObjectReferenceSize, ObjectReferenceTooLarge, Object}
 use Rattle.reader.specs.Said.{values_of}
@@ -22,8 +22,8 @@ others TooDeep _ = refl
 others NoRoomForText _ = refl
 others WrongFile _ = refl
 
-file-others : (r : FileRefusal) → ((p : ObjectRefusal) → r ≡ Object p → ⊥) → 0 ≡ get_or (fileValues r) 0 0
-unfolding fileValues
+file-others : (r : FileRefusal) → ((p : ObjectRefusal) → r ≡ Object p → ⊥) → 0 ≡ get_or (file_values r) 0 0
+unfolding file_values
 file-others TooLong _ = refl
 file-others EndOfInput _ = refl
 file-others InvalidMagic _ = refl
@@ -32,8 +32,8 @@ file-others InvalidTrailerObjectReferenceSize _ = refl
 file-others ObjectReferenceTooLarge _ = refl
 file-others (Object r) k = absurd (k r refl)
 
-object-others : (r : ObjectRefusal) → ((p : ℕ) → r ≡ UnknownObjectType p → ⊥) → 0 ≡ get_or (objectValues r) 0 0
-unfolding objectValues
+object-others : (r : ObjectRefusal) → ((p : ℕ) → r ≡ UnknownObjectType p → ⊥) → 0 ≡ get_or (object_values r) 0 0
+unfolding object_values
 object-others ObjectOffsetTooLarge _ = refl
 object-others NullObjectUnimplemented _ = refl
 object-others FillObjectUnimplemented _ = refl
@@ -52,9 +52,9 @@ unfolding values_of
 returns-in_default-of_file c = rw c.in-File.is (file-others c.in-File.of_file c.in_default-of_file.not-Object)
 
 pub returns-in_default-of_object : goal.returns-in_default-of_object
-unfolding values_of fileValues
+unfolding values_of file_values
 returns-in_default-of_object c = rw (c.in-File.is, c.in-Object.is) (object-others c.in-Object.of_object c.in_default-of_object.not-UnknownObjectType)
 
 pub returns : goal.returns
-unfolding values_of fileValues objectValues
+unfolding values_of file_values object_values
 returns c = rw (c.in-File.is, c.in-Object.is, c.in-UnknownObjectType.is)

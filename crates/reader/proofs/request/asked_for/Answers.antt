@@ -4,7 +4,7 @@ use mathlib.Core.Path.{◌≡◌, refl, sym, ap, ◌∙◌}
 use Prim.Native.Nat.{ℕ}
 use borrow.Author.Tests.{lt-ltb, le-ltb}
 use Rattle.layout.specs.Bytes.{denied}
-use Rattle.layout.specs.Said.{number_of as file_number, values_of as fileValues, trailer_said}
+use Rattle.layout.specs.Said.{number_of as file_number, values_of as file_values, trailer_said}
 use Rattle.layout.specs.Trailer.{trailer_of, trailer_in}
 use Rattle.layout.specs.declared.layout.Layout.{Layout}
 use Rattle.layout.specs.declared.trailer.TrailerRead.{TrailerRead}
@@ -23,7 +23,7 @@ others file r (Ends a b) _ = refl
 others file r (Lays l root) k = absurd (k l root refl)
 
 pub returns-then-file-gt-MAX_LENGTH : goal.returns-then-file-gt-MAX_LENGTH
-unfolding asked_of asked_said number_of values_of file_number fileValues
+unfolding asked_of asked_said number_of values_of file_number file_values
 returns-then-file-gt-MAX_LENGTH c = rw (lt-ltb _ _ c.if-file-gt-MAX_LENGTH.true)
 
 -- a file that isn't too long has the trailer that is read

@@ -4,7 +4,7 @@ use borrow.Author.Rules.{rules}
 use borrow.Author.Tests.{not-true, not-false}
 use Rattle.event.specs.Meaning.{meaning_of}
 use Rattle.tape.specs.Append.{said}
-use Rattle.tape.specs.AppendLaws.{put_bad, put_event, put_reads}
+use Rattle.tape.proofs.AppendLaws.{put_bad, put_event, put_reads}
 use Rattle.tape.specs.Code.{InRange}
 use Rattle.tape.proofs.Range.{in_range_law}
 use Rattle.tape.proofs.append.append.Goals as goal

@@ -4,7 +4,7 @@ use mathlib.Core.Path.{◌≡◌, refl, ap, sym, ◌∙◌}
 use native.Mathlib.Omega.{arith}
 use lib.ListN.{length, get_or}
 use Rattle.tape.specs.End.{after_number, after_negative, after_bytes, end_behind}
-use Rattle.tape.specs.EndLaws.{end_of_law, end_past, behind_none}
+use Rattle.tape.proofs.EndLaws.{end_of_law, end_past, behind_none}
 use Rattle.tape.proofs.Tests.{one_of_two}
 use Rattle.tape.proofs.end.end_by_kind.Goals as goal
 

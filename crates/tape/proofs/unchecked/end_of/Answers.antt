@@ -2,7 +2,7 @@
 use mathlib.Core.Path.{ap, sym, ◌∙◌}
 use lib.ListN.{length}
 use Rattle.tape.specs.End.{after_bytes, end_behind}
-use Rattle.tape.specs.EndLaws.{end_of_law}
+use Rattle.tape.proofs.EndLaws.{end_of_law}
 use Rattle.tape.proofs.unchecked.end_of.Goals as goal
 
 pub returns-then-tape-at-eq9 : goal.returns-then-tape-at-eq9

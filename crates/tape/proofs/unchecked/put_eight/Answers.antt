@@ -9,7 +9,7 @@ use lib.Seq.{sets, length-sets}
 use Rattle.number.specs.Be.{bytes_of}
 use Rattle.number.specs.BeLaws.{length_bytes_of}
 use Rattle.tape.specs.Append.{said}
-use Rattle.tape.specs.AppendLaws.{put_none, put_room, put_part}
+use Rattle.tape.proofs.AppendLaws.{put_none, put_room, put_part}
 use Rattle.tape.proofs.Tests.{lacks, has}
 use Rattle.tape.proofs.unchecked.put_eight.Goals as goal
 use Rattle.tape.proofs.unchecked.put_eight.Lts as lts

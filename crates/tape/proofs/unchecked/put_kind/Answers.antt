@@ -5,7 +5,7 @@ use Prim.Native.Nat.{◌+◌, ◌≤◌}
 use native.Mathlib.Omega.{arith}
 use lib.ListN.{length}
 use Rattle.tape.specs.Append.{said}
-use Rattle.tape.specs.AppendLaws.{put_none, put_room}
+use Rattle.tape.proofs.AppendLaws.{put_none, put_room}
 use Rattle.tape.proofs.Tests.{lacks, has}
 use Rattle.tape.proofs.unchecked.put_kind.Goals as goal
 

@@ -5,7 +5,7 @@ use native.Mathlib.Omega.{arith}
 use lib.ListN.{length, length-set}
 use lib.Seq.{length-sets}
 use Rattle.tape.specs.Append.{said}
-use Rattle.tape.specs.AppendLaws.{put_none, put_room}
+use Rattle.tape.proofs.AppendLaws.{put_none, put_room}
 use Rattle.tape.specs.Seven.{seven}
 use Rattle.tape.proofs.Tests.{lacks, has}
 use Rattle.tape.proofs.unchecked.put_number.Goals as goal

@@ -4,7 +4,7 @@ use mathlib.Core.Path.{refl, ap, ◌∙◌}
 use Rattle.event.specs.Meaning.{meaning_of}
 use Rattle.transcribe.specs.HandedLaws.{bare_allowed}
 use Rattle.transcribe.specs.Note.{from_tape}
-use Rattle.tape.specs.AppendLaws.{put_event}
+use Rattle.tape.proofs.AppendLaws.{put_event}
 use Rattle.transcribe.proofs.Noting.{put_unchecked}
 use Rattle.transcribe.proofs.note.note_plain.Goals as goal
 

@@ -4,7 +4,7 @@ use native.Mathlib.Omega.{arith}
 use Rattle.number.specs.Width.{width_of}
 use Rattle.layout.specs.Frame.{next_in}
 use Rattle.layout.specs.Looked.{container}
-use Rattle.layout.specs.Said.{shape_said, look_said, number_of as file_number, values_of as fileValues}
+use Rattle.layout.specs.Said.{shape_said, look_said, number_of as file_number, values_of as file_values}
 use Rattle.layout.specs.SaidLaws.{number_listed, due_said_one}
 use Rattle.layout.specs.declared.layout.Due.TheVariants.{Close, Member}
 use Rattle.reader.specs.Next.{go_on, with_refs, next_of}
@@ -62,7 +62,7 @@ unfolding step_said said
 returns-then-depth-eq0 c = sym (next_ended c.args.file.now c.args.self c.if-self.false c.if-depth-eq0.true)
 
 pub returns-then-file-gt-MAX_LENGTH : goal.returns-then-file-gt-MAX_LENGTH
-unfolding number_of values_of file_number fileValues
+unfolding number_of values_of file_number file_values
 returns-then-file-gt-MAX_LENGTH c = c.kept.ensures ∙ sym (next_long c.args.file.now c.args.self c.if-self.false c.if-depth-eq0.false c.if-file-gt-MAX_LENGTH.true)
 
 pub returns-then-self-file : goal.returns-then-self-file

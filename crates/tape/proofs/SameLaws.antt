@@ -4,8 +4,8 @@ use Rattle.std.proofs.Common.{ap, sym, ◌∙◌, arith, length-append, length-d
 use Rattle.event.specs.Meaning.{Meaning}
 use Rattle.number.specs.BeLaws.{Bytes}
 use Rattle.tape.specs.Code.{bytes_for, OnTape}
-use Rattle.tape.specs.CodeLaws.{reads_back, bytes_some}
-use Rattle.tape.specs.FormLaws.{reads_written}
+use Rattle.tape.proofs.CodeLaws.{reads_back, bytes_some}
+use Rattle.tape.proofs.FormLaws.{reads_written}
 use Rattle.tape.specs.Item.{event, read_at}
 use Rattle.number.specs.Part.{part}
 

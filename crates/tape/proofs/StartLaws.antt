@@ -5,7 +5,7 @@ use Rattle.std.proofs.Common.{inl, inr, sym, ap, ◌∙◌, arith, length-append
 use Rattle.number.specs.BeLaws.{Bytes}
 use Rattle.event.specs.Meaning.{Meaning}
 use Rattle.tape.specs.Events.{Events, whole, broken, events_of, tape_of, meant_by, meanings_in, is_broken, start_at}
-use Rattle.tape.specs.EventsLaws.{whole_is, broken_is, tape_append, tape_long}
+use Rattle.tape.proofs.EventsLaws.{whole_is, broken_is, tape_append, tape_long}
 
 -- one of n events, or what is none behind them all
 abbrev pub Among : ℕ → Bool → ℕ → Type 0

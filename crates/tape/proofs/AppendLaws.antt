@@ -12,7 +12,7 @@ use Rattle.event.specs.Meaning.{Meaning, meaning_of}
 use Rattle.event.specs.declared.Event.{Event}
 use Rattle.tape.specs.Append.{Said, held, refused, said, fits, put_of, put_to, append_of, append_to, ReadsBack}
 use Rattle.tape.specs.Code.{bytes_for, InRange, allowed}
-use Rattle.tape.specs.CodeLaws.{reads_back}
+use Rattle.tape.proofs.CodeLaws.{reads_back}
 use Rattle.tape.specs.Item.{item_at, meaning_in, event, read_at}
 use Rattle.tape.specs.ItemLaws.{reads_item}
 use Rattle.tape.specs.declared.append.Appended.{Appended}

@@ -7,9 +7,9 @@ use Rattle.number.specs.BeLaws.{Bytes}
 use Rattle.event.specs.Date.{is_date}
 use Rattle.event.specs.Meaning.{Meaning, array, dictionary, close, boolean, bytes, date, integer, real, text, uid}
 use Rattle.tape.specs.Code.{bytes_for, InRange, allowed, OnTape}
-use Rattle.tape.specs.FormLaws.{reads_written}
+use Rattle.tape.proofs.FormLaws.{reads_written}
 use Rattle.tape.specs.Item.{Reading, event, bad, read_at}
-use Rattle.tape.specs.SameLaws.{same_front}
+use Rattle.tape.proofs.SameLaws.{same_front}
 use Rattle.tape.specs.Seven.{seven}
 use Rattle.utf.specs.Unicode.{is_utf8}
 

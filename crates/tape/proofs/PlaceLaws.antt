@@ -4,8 +4,8 @@ use Rattle.std.proofs.Common.{sym, ap, ◌∙◌, arith, length-append, length-d
 use Rattle.number.specs.BeLaws.{Bytes}
 use Rattle.event.specs.Meaning.{Meaning}
 use Rattle.tape.specs.Code.{bytes_for}
-use Rattle.tape.specs.CodeLaws.{reads_back, bytes_some}
-use Rattle.tape.specs.FormLaws.{reads_written}
+use Rattle.tape.proofs.CodeLaws.{reads_back, bytes_some}
+use Rattle.tape.proofs.FormLaws.{reads_written}
 use Rattle.tape.specs.Item.{Reading, event, bad, read_at}
 
 module _ (s t : List ℕ) (a b : ℕ) (good : Bytes s) (same : drop a s ≡ drop b t) where

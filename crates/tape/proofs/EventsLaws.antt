@@ -6,13 +6,13 @@ use Rattle.event.specs.Date.{is_date}
 use Rattle.event.specs.Meaning.{Meaning, close, date}
 use Rattle.number.specs.BeLaws.{Bytes}
 use Rattle.tape.specs.Append.{held, append_of, append_to}
-use Rattle.tape.specs.AppendLaws.{append_held, appended}
+use Rattle.tape.proofs.AppendLaws.{append_held, appended}
 use Rattle.tape.specs.Code.{bytes_for, InRange, allowed, OnTape}
-use Rattle.tape.specs.CodeLaws.{reads_back, bytes_some}
+use Rattle.tape.proofs.CodeLaws.{reads_back, bytes_some}
 use Rattle.tape.specs.Events.{Events, whole, broken, before, events_from, events_of, tape_of}
-use Rattle.tape.specs.FormLaws.{Stands, Written, reads_written}
+use Rattle.tape.proofs.FormLaws.{Stands, Written, reads_written}
 use Rattle.tape.specs.Item.{Reading, event, bad, read_at}
-use Rattle.tape.specs.SameLaws.{item_within}
+use Rattle.tape.proofs.SameLaws.{item_within}
 
 -- events that have their bytes on the tape
 abbrev pub AllOnTape : List Meaning → Type 0

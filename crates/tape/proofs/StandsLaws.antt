@@ -2,7 +2,7 @@
 use Rattle.std.specs.Prelude.{List, ◌∷◌, ◌++◌, ◌≡◌, refl, ℕ, suc, ◌+◌, ◌^◌, ◌≤◌, ◌<◌, length, get_or, drop}
 use Rattle.std.proofs.Common.{append_assoc, ap, sym, ◌∙◌, add-one, arith, length-append, length-drop, drop_at, drop-cons, drop-drop, take_at}
 use Rattle.number.specs.BeLaws.{Bytes}
-use Rattle.tape.specs.FormLaws.{Stands}
+use Rattle.tape.proofs.FormLaws.{Stands}
 use Rattle.number.specs.PartLaws.{bytes_drop}
 use Rattle.tape.specs.Seven.{seven}
 use Rattle.tape.specs.SevenLaws.{seven_long}
