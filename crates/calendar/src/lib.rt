@@ -1,4 +1,6 @@
 // A date's 64 bits as a day and a time of the calendar, and back: the proleptic Gregorian calendar, in UTC, without leap seconds.
+#![tactic(auto)]
+
 mod days;
 mod floor;
 mod months;

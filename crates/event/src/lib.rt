@@ -1,4 +1,6 @@
 // What a property list says, one event at a time.
+#![tactic(auto)]
+
 pub mod date;
 pub mod limits;
 pub mod real;

@@ -1,6 +1,5 @@
 -- `calendar_of` answers the time of the seconds since year one, or that there are none in the range.
 use mathlib.Core.Path.{sym, ap, ◌∙◌}
-use borrow.Author.Rules.{rules}
 use Rattle.calendar.specs.Date.{gives, time_since, calendar_of, dated_said}
 use Rattle.calendar.specs.RangeLaws.{since_range}
 use Rattle.calendar.proofs.calendar_of.Goals as goal

@@ -1,5 +1,4 @@
 -- `is_day` tests as the definition does, in its order.
-use borrow.Author.Rules.{rules}
 use borrow.Author.Tests.{le-ltb}
 use Rattle.number.specs.Tests.{tests}
 use Rattle.calendar.specs.Calendar.{is_day}

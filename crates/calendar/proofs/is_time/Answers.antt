@@ -1,6 +1,5 @@
 -- `is_time` asks for the day, then for the time of day.
 use mathlib.Core.Path.{sym, ◌∙◌}
-use borrow.Author.Rules.{rules}
 use Rattle.calendar.specs.Calendar.{is_time}
 use Rattle.calendar.proofs.is_time.Goals as goal
 

@@ -9,7 +9,6 @@ use Rattle.calendar.specs.Calendar.{is_time, seconds_since_epoch}
 use Rattle.calendar.specs.Date.{seconds_of, seconds_said}
 use Rattle.calendar.specs.EpochLaws.{epoch_is, difference_fits}
 use Rattle.calendar.specs.TimeLaws.{time_says, seconds_in_range}
-use borrow.Author.Rules.{rules}
 use Rattle.calendar.proofs.seconds_of.Goals as goal
 
 there : (c : goal.After-seconds_since_one-seconds) → is_time c.args.time ≡ true

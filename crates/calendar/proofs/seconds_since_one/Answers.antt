@@ -3,7 +3,6 @@ use native.Mathlib.Omega.{arith}
 use Rattle.calendar.specs.Calendar.{seconds_since_one, days_since_one, clock_of}
 use Rattle.calendar.specs.TimeLaws.{IsTime, time_says}
 use Rattle.calendar.proofs.Fit.{Sums, sums}
-use borrow.Author.Rules.{rules}
 use Rattle.calendar.proofs.seconds_since_one.Goals as goal
 use Rattle.calendar.proofs.seconds_since_one.Lts as lts
 use Rattle.calendar.proofs.seconds_since_one.Reads as reads

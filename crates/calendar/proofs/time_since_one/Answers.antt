@@ -3,7 +3,6 @@ use Prim.Native.Nat.{◌/◌, ◌≤◌}
 use native.Mathlib.Omega.{arith}
 use Rattle.calendar.specs.Calendar.{days_in_year, days_in_month, time_since_one}
 use Rattle.calendar.specs.CountLaws.{rest_most}
-use borrow.Author.Rules.{rules}
 use Rattle.calendar.proofs.time_since_one.Goals as goal
 
 pub overflow_add-result : goal.overflow_add-result

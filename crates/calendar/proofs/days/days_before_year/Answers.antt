@@ -5,7 +5,6 @@ use native.Mathlib.Omega.{arith}
 use Rattle.calendar.specs.Count.{total}
 use Rattle.calendar.specs.Calendar.{days_before_year}
 use Rattle.calendar.specs.YearLaws.{years_sum}
-use borrow.Author.Rules.{rules}
 use Rattle.calendar.proofs.days.days_before_year.Goals as goal
 
 pub returns-then-year-lt1 : goal.returns-then-year-lt1

@@ -2,7 +2,6 @@
 use Rattle.calendar.proofs.Fit.{part_fits, whole_fits, next_fits}
 use Rattle.calendar.specs.YearLaws.{year_small, year_cut}
 use Prim.Native.Nat.{◌+◌, ◌*◌, ◌-◌, ◌/◌, ◌%◌, ◌<◌}
-use borrow.Author.Rules.{rules}
 use Rattle.calendar.proofs.days.year_of.Goals as goal
 
 small : (c : goal.After-at_most_three-ones) → 400 * (c.args.days / 146_097) + 100 * c.at_most_three-hundreds.result + 4 * ((c.args.days % 146_097 - 36_524 * c.at_most_three-hundreds.result) / 1461) + c.at_most_three-ones.result < 10000

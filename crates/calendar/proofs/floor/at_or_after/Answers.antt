@@ -1,7 +1,6 @@
 -- `at_or_after` keeps what lies below the end of the range.
 use borrow.Author.Tests.{lt-ltb, le-ltb}
 use Rattle.calendar.specs.Date.{since_whole}
-use borrow.Author.Rules.{rules}
 use Rattle.calendar.proofs.floor.at_or_after.Goals as goal
 
 pub returns-then-whole-lt252423993600 : goal.returns-then-whole-lt252423993600

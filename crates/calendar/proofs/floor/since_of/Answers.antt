@@ -6,7 +6,6 @@ use lib.IntN.{pos, neg_ℤ}
 use Rattle.calendar.specs.declared.floor.Split.{Split}
 use Rattle.calendar.specs.Date.{since_whole}
 use Rattle.calendar.specs.BitsLaws.{since_far, since_positive, since_exact, since_between, whole_small}
-use borrow.Author.Rules.{rules}
 use Rattle.calendar.proofs.floor.since_of.Goals as goal
 
 pub returns-then-low-ge4778319204640096256 : goal.returns-then-low-ge4778319204640096256

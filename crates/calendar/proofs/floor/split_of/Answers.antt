@@ -5,7 +5,6 @@ use native.Mathlib.Omega.{arith}
 use lib.Pow.{pow_pos}
 use Rattle.calendar.specs.Split.{split_of}
 use Rattle.calendar.specs.BitsLaws.{split_small, split_large, unit_is}
-use borrow.Author.Rules.{rules}
 use Rattle.calendar.proofs.floor.split_of.Goals as goal
 
 pub returns-then-field-lt1023 : goal.returns-then-field-lt1023

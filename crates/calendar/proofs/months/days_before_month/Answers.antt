@@ -1,8 +1,7 @@
 -- `days_before_month` adds up the months one by one.
 use mathlib.Core.Path.{◌≡◌, refl, sym, ap, ◌∙◌}
-use Prim.Native.Nat.{ℕ, ◌-◌, ◌*◌, ◌≤◌, max}
+use Prim.Native.Nat.{ℕ, ◌-◌}
 use native.Mathlib.Omega.{arith}
-use borrow.Author.Rules.{rules}
 use Rattle.calendar.specs.Calendar.{days_in_month, days_before_month}
 use Rattle.calendar.specs.Count.{total}
 use Rattle.calendar.specs.CountLaws.{total_next}

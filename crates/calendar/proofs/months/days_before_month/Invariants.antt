@@ -1,12 +1,8 @@
 -- `days_before_month` adds up the months one by one.
-use mathlib.Core.Path.{◌≡◌, refl, sym, ap, ◌∙◌}
-use Prim.Native.Nat.{ℕ, ◌-◌, ◌*◌, ◌≤◌, max}
-use native.Mathlib.Omega.{arith}
-use borrow.Author.Rules.{rules}
-use Rattle.calendar.specs.Calendar.{days_in_month, days_before_month}
+use mathlib.Core.Path.{◌≡◌}
+use Prim.Native.Nat.{◌-◌, ◌*◌, ◌≤◌, max}
+use Rattle.calendar.specs.Calendar.{days_in_month}
 use Rattle.calendar.specs.Count.{total}
-use Rattle.calendar.specs.CountLaws.{total_next}
-use Rattle.calendar.specs.MonthLaws.{month_most}
 use Rattle.calendar.proofs.months.days_before_month.Given as goal
 
 abbrev pub invariant-loop-i : goal.invariant-loop-i

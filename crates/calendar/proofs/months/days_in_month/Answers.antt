@@ -2,7 +2,6 @@
 use mathlib.Core.Path.{sym, ◌∙◌}
 use borrow.Author.Tests.{eq-eqb, ne_eqb}
 use Rattle.calendar.specs.Calendar.{days_in_month}
-use borrow.Author.Rules.{rules}
 use Rattle.calendar.proofs.months.days_in_month.Goals as goal
 
 pub returns-then-is_leap : goal.returns-then-is_leap

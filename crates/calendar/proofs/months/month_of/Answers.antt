@@ -1,8 +1,7 @@
 -- `month_of` counts months off: what is left to count gives the same place each turn.
 use mathlib.Core.Path.{◌≡◌, refl, sym, ◌∙◌}
-use Prim.Native.Nat.{◌+◌, ◌-◌, ◌≤◌, suc}
+use Prim.Native.Nat.{◌+◌, ◌-◌, suc}
 use native.Mathlib.Omega.{arith}
-use borrow.Author.Rules.{rules}
 use Rattle.calendar.specs.Calendar.{days_in_month}
 use Rattle.calendar.specs.Count.{count_off}
 use Rattle.calendar.specs.CountLaws.{count_here, count_next}

@@ -1,11 +1,8 @@
 -- `month_of` counts months off: what is left to count gives the same place each turn.
-use mathlib.Core.Path.{◌≡◌, refl, sym, ◌∙◌}
-use Prim.Native.Nat.{◌+◌, ◌-◌, ◌≤◌, suc}
-use native.Mathlib.Omega.{arith}
-use borrow.Author.Rules.{rules}
+use mathlib.Core.Path.{◌≡◌}
+use Prim.Native.Nat.{◌-◌, ◌≤◌}
 use Rattle.calendar.specs.Calendar.{days_in_month}
 use Rattle.calendar.specs.Count.{count_off}
-use Rattle.calendar.specs.CountLaws.{count_here, count_next}
 use Rattle.calendar.proofs.months.month_of.Given as goal
 
 abbrev pub invariant-loop-month : goal.invariant-loop-month

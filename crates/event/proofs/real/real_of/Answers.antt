@@ -2,7 +2,6 @@
 use mathlib.Core.Path.{sym, ◌∙◌}
 use Rattle.event.specs.Real.{real_of}
 use Rattle.event.specs.RealLaws.{failed}
-use borrow.Author.Rules.{rules}
 use Rattle.event.proofs.real.real_of.Goals as goal
 
 pub returns-then-is_nan64 : goal.returns-then-is_nan64

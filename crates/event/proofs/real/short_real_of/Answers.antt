@@ -3,7 +3,6 @@ use mathlib.Core.Path.{sym, ◌∙◌}
 use Rattle.event.specs.Real.{short_real_of}
 use Rattle.event.specs.RealLaws.{failed}
 use Rattle.event.proofs.Nans.{widens}
-use borrow.Author.Rules.{rules}
 use Rattle.event.proofs.real.short_real_of.Goals as goal
 
 pub returns-then-is_nan32 : goal.returns-then-is_nan32

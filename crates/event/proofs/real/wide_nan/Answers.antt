@@ -1,7 +1,6 @@
 -- `wide_nan` keeps the sign, sets the quiet bit and shifts the fraction.
 use borrow.Author.Tests.{le-leb, lt-leb}
 use Rattle.event.specs.Real.{wide_nan}
-use borrow.Author.Rules.{rules}
 use Rattle.event.proofs.real.wide_nan.Goals as goal
 
 pub returns-then-bits-ge2147483648 : goal.returns-then-bits-ge2147483648

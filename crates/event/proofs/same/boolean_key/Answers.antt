@@ -1,6 +1,5 @@
 -- `boolean_key`: 02 for true, 01 for false.
 use Rattle.event.specs.Same.{key_of}
-use borrow.Author.Rules.{rules}
 use Rattle.event.proofs.same.boolean_key.Goals as goal
 
 pub returns-then-value : goal.returns-then-value

@@ -1,7 +1,6 @@
 -- `is_same`: the kinds, then the numbers.
 use borrow.Author.Tests.{eq-eqb, ne_eqb}
 use Rattle.event.specs.Same.{same}
-use borrow.Author.Rules.{rules}
 use Rattle.event.proofs.same.is_same.Goals as goal
 
 pub returns-then-one-other : goal.returns-then-one-other

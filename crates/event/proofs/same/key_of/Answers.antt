@@ -3,7 +3,6 @@ use mathlib.Core.Path.{ap, ◌∙◌}
 use Rattle.event.specs.Meaning.{meaning_of}
 use Rattle.event.specs.Same.{key, key_of}
 use Rattle.event.specs.SameLaws.{start_array, start_dictionary}
-use borrow.Author.Rules.{rules}
 use Rattle.event.proofs.same.key_of.Goals as goal
 
 pub returns-in-StartArray : goal.returns-in-StartArray

@@ -1,7 +1,6 @@
 -- `signed_key`: the kind by the sign, then the magnitude.
 use mir.Facts.{to_z-of_z}
 use Rattle.event.specs.SameLaws.{key_below, key_above}
-use borrow.Author.Rules.{rules}
 use Rattle.event.proofs.same.signed_key.Goals as goal
 
 pub returns-then-z-lt0 : goal.returns-then-z-lt0

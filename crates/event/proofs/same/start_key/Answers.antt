@@ -1,6 +1,5 @@
 -- `start_key`: a given length has the kind after.
 use Rattle.event.specs.Same.{start_key}
-use borrow.Author.Rules.{rules}
 use Rattle.event.proofs.same.start_key.Goals as goal
 
 pub returns-in-Given : goal.returns-in-Given
