@@ -27,7 +27,6 @@ use Rattle.tape.specs.declared.append.Appended.TheVariants.{Held as HeldOn, BadE
 use Rattle.builder.specs.Build.{Said, holds, refused, answer_said, judge_of, fitted_of, by_way, build_of, tape_by, tape_after, builder_by, builder_after}
 use Rattle.builder.specs.CallsLaws.{Clear}
 use Rattle.builder.specs.State.{due_of, moved_by}
-use Rattle.builder.specs.declared.answer.Answer.{Answer}
 use Rattle.builder.specs.declared.answer.Answer.TheVariants.{Held}
 use Rattle.builder.specs.declared.state.Builder.{Builder}
 
@@ -66,7 +65,7 @@ full_by (NoRoomOn p) k = (27, p, refl)
 module _ (b : Builder) (tape : List ℕ) (m : Meaning) (sound : Sound m) where
   -- an answer, the tape and the builder as they are promised
   abbrev pub Promised : Said → List ℕ → Builder → Type 0
-  Promised a t c = (a ≡ build_of b (length tape) m) × ((t ≡ tape_after b tape m) × ((c ≡ builder_after b (length tape) m) × Sound m))
+  Promised a t c = record { answer_value : a ≡ build_of b (length tape) m; tape_after : t ≡ tape_after b tape m; builder_after : c ≡ builder_after b (length tape) m; sound : Sound m }
 
   -- neither 32 nor 1
   abbrev pub Short : Type 0
@@ -74,7 +73,7 @@ module _ (b : Builder) (tape : List ℕ) (m : Meaning) (sound : Sound m) where
 
   refusal : (n : ℕ) (ks : List EventKind) (p : ℕ) → build_of b (length tape) m ≡ refused n ks p → Promised (refused n ks p) tape b
   unfolding tape_after tape_by builder_after builder_by
-  refusal n ks p e = (sym e, (rw e, (rw e, sound)))
+  refusal n ks p e = record { answer_value = sym e; tape_after = rw e; builder_after = rw e; sound = sound }
 
   pub shrank : length tape < b.held → Promised (refused 32 [] 0) tape b
   unfolding build_of
@@ -101,17 +100,17 @@ module _ (b : Builder) (tape : List ℕ) (m : Meaning) (sound : Sound m) where
       unfolding fitted_of fits
       by_room = by_way_law s ∙ rw (← is) (clear_fitted b.held (length (bytes_for m)) (length tape) w free)
 
-      pub taken : {x : Appended} {l : List ℕ} {a : Answer} {c : Builder} (end : ℕ) → x ≡ HeldOn end → said x ≡ put_of tape b.held (bytes_for m) → l ≡ put_to tape b.held (bytes_for m) → a ≡ Held end → c ≡ moved_by w b end → Promised (answer_said a) l c
+      pub taken : {x : Appended} {l : List ℕ} {c : Builder} (end : ℕ) → x ≡ HeldOn end → said x ≡ put_of tape b.held (bytes_for m) → l ≡ put_to tape b.held (bytes_for m) → c ≡ moved_by w b end → Promised (answer_said (Held end)) l c
       unfolding said put_of put_to answer_said tape_after tape_by builder_after builder_by
-      taken {x} {l} {a} {c} end e p q f g = go (fits tape b.held (bytes_for m)) refl
+      taken {x} {l} {c} end e p q g = go (fits tape b.held (bytes_for m)) refl
         where
-          go : (v : Bool) → fits tape b.held (bytes_for m) ≡ v → Promised (answer_said a) l c
+          go : (v : Bool) → fits tape b.held (bytes_for m) ≡ v → Promised (answer_said (Held end)) l c
           go true h =
               let k : append.held end ≡ append.held (b.held + length (bytes_for m)) = rw (e, h) at p in
               let n : end ≡ b.held + length (bytes_for m) = cc in
               let y : build_of b (length tape) m ≡ holds (b.held + length (bytes_for m)) = rw h at by_room in
               let z : l ≡ sets tape b.held (bytes_for m) = rw h at q in
-              (rw (f, n, y), (rw y z, (rw (y, ← n, ← is) g, sound)))
+              record { answer_value = rw (n, y); tape_after = rw y z; builder_after = rw (y, ← n, ← is) g; sound = sound }
           go false h =
               let k : append.held end ≡ append.refused 27 b.held = rw (e, h) at p in
               let z : ◌≡◌ {A = ℕ} 0 1 = cc in

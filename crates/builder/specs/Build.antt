@@ -1,11 +1,10 @@
 -- What a builder answers to an event. docs/FORMAT.md, rules B3 to B5.
-use Rattle.std.specs.Prelude.{cond, List, [], ℕ, ◌+◌, ltb, leb, length}
+use Rattle.std.specs.Prelude.{cond, List, [], ℕ, ◌+◌, ltb, leb, length, Option}
 use Rattle.std.proofs.lemmas.List.Edits.{sets}
 use Rattle.event.specs.Format.{max_length}
 use Rattle.event.specs.Meaning.{Meaning}
 use Rattle.event.specs.declared.Event.{Event}
 use Rattle.event.specs.declared.Event.TheVariants.{StartArray, StartDictionary}
-use Rattle.event.specs.declared.Length.{Length}
 use Rattle.tape.specs.Code.{bytes_for, allowed}
 use Rattle.grammar.specs.Said.{number_of, kinds_of}
 use Rattle.grammar.specs.Turn.{is_nothing}
@@ -33,7 +32,7 @@ answer_said (Refused r place) = refused (number_of r) (kinds_of r) place
 answer_said (NoRoom place) = refused 27 [] place
 answer_said TapeShrank = refused 32 [] 0
 
-unfoldable pub start_of : Container → Length → Event
+unfoldable pub start_of : Container → Option ℕ → Event
 start_of Array given = StartArray given
 start_of Dictionary given = StartDictionary given
 

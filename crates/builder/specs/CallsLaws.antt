@@ -42,7 +42,7 @@ use Rattle.builder.specs.Build.{Said, holds, refused, judge_of, fitted_of, by_wa
 use Rattle.builder.specs.FitLaws.{Fits, way_fits}
 use Rattle.builder.specs.Finish.{finish_of, finish_output, finish_used}
 use Rattle.builder.specs.SaneLaws.{Sane, sane_empty, sane_open, sane_moves, Follows, follows}
-use Rattle.builder.specs.State.{empty_builder, due_of, least_of, open_from, open_of, moved_by}
+use Rattle.builder.specs.State.{empty_builder, due_of, open_from, open_of, moved_by}
 use Rattle.builder.specs.declared.state.Builder.{Builder}
 
 -- a refused call leaves the builder and the tape as they were
@@ -61,7 +61,7 @@ pub record Stands (b : Builder) (tape : List ℕ) (ms : List Meaning) : Type 0 w
 
 -- an empty builder is behind no event, whatever is lent
 pub stands_empty : (tape : List ℕ) → Stands empty_builder tape []
-unfolding leads due_of open_of open_from least_of tape_of
+unfolding leads due_of open_of open_from tape_of
 stands_empty tape = record { sane = sane_empty; fine = tt; good = tt; led = refl; lent = omega arith; front = refl }
 
 -- what lies on the tape behind the bytes held doesn't count

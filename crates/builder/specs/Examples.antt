@@ -1,6 +1,5 @@
 -- Calls one after the other, computed: each answer, and what is left.
-use Rattle.std.specs.Prelude.{true, List, [], ◌∷◌, ◌≡◌, refl, ℕ, length, replicate}
-use Rattle.std.proofs.Math.Option.{none}
+use Rattle.std.specs.Prelude.{true, List, [], ◌∷◌, ◌≡◌, refl, ℕ, length, replicate, None}
 use Rattle.event.specs.Meaning.{Meaning, array, dictionary, close, boolean, date, text}
 use Rattle.grammar.specs.declared.answer.EventKind.TheVariants.{ValueOrStartCollection, DictionaryKeyOrEndCollection, StartArray, EndCollection, Boolean}
 use Rattle.grammar.specs.declared.turn.Due.TheVariants.{Element, Key, Nothing}
@@ -28,7 +27,7 @@ behind b tape (m ∷ ms) = behind (builder_after b (length tape) m) (tape_after 
 -- date; an end behind the lone key, which closes nothing; what comes behind the root
 unfoldable pub hold : List Meaning
 hold =
-    close ∷ dictionary none ∷ boolean true ∷ text (0xFF ∷ []) ∷ text (0x6B ∷ []) ∷ close ∷ date 0x7FF0000000000000 ∷ array none ∷ boolean true ∷ close ∷ close ∷ text (0xFF ∷ []) ∷ []
+    close ∷ dictionary None ∷ boolean true ∷ text (0xFF ∷ []) ∷ text (0x6B ∷ []) ∷ close ∷ date 0x7FF0000000000000 ∷ array None ∷ boolean true ∷ close ∷ close ∷ text (0xFF ∷ []) ∷ []
 
 pub called :
     answers empty_builder (replicate 10 0) hold ≡
@@ -43,9 +42,9 @@ built = refl
 
 -- 27 comes behind the event's own refusals, and 32 before all: true where a key is due on a tape that is full; a text that doesn't fit; the tape shrank
 pub orders :
-    (build_of (behind empty_builder (replicate 1 0) (dictionary none ∷ [])) 1 (boolean true) ∷
-    build_of (behind empty_builder (replicate 1 0) (dictionary none ∷ [])) 1 (text []) ∷
-    build_of (behind empty_builder (replicate 1 0) (dictionary none ∷ [])) 0 (boolean true) ∷ []) ≡
+    (build_of (behind empty_builder (replicate 1 0) (dictionary None ∷ [])) 1 (boolean true) ∷
+    build_of (behind empty_builder (replicate 1 0) (dictionary None ∷ [])) 1 (text []) ∷
+    build_of (behind empty_builder (replicate 1 0) (dictionary None ∷ [])) 0 (boolean true) ∷ []) ≡
     (refused 21 (DictionaryKeyOrEndCollection ∷ Boolean ∷ []) 1 ∷ refused 27 [] 1 ∷ refused 32 [] 0 ∷ [])
 unfolding computed behind
 orders = refl
@@ -54,9 +53,9 @@ orders = refl
 pub limits :
     (build_of (record { held = 0x80000000; due = 1; depth = 1; bits = replicate 8 0 }) 0x80000001 (boolean true) ∷
     build_of (record { held = 0x7FFFFFFF; due = 1; depth = 1; bits = replicate 8 0 }) 0x80000001 (boolean true) ∷
-    build_of (record { held = 9; due = 1; depth = 512; bits = replicate 8 0 }) 20 (array none) ∷
-    build_of (record { held = 9; due = 1; depth = 511; bits = replicate 8 0 }) 20 (array none) ∷
-    build_of (record { held = 9; due = 2; depth = 513; bits = replicate 8 0 }) 20 (array none) ∷
+    build_of (record { held = 9; due = 1; depth = 512; bits = replicate 8 0 }) 20 (array None) ∷
+    build_of (record { held = 9; due = 1; depth = 511; bits = replicate 8 0 }) 20 (array None) ∷
+    build_of (record { held = 9; due = 2; depth = 513; bits = replicate 8 0 }) 20 (array None) ∷
     []) ≡
     (refused 1 [] 0 ∷ holds 0x80000000 ∷ refused 15 [] 9 ∷ holds 10 ∷ refused 21 (DictionaryKeyOrEndCollection ∷ StartArray ∷ []) 9 ∷ [])
 unfolding computed
@@ -64,11 +63,11 @@ limits = refl
 
 -- an array in a dictionary in an array: what is due behind each, and the builder in words
 pub nested :
-    (open_of (behind empty_builder (replicate 9 0) (array none ∷ dictionary none ∷ text [] ∷ array none ∷ []))) ≡ (Key ∷ Element ∷ Nothing ∷ [])
+    (open_of (behind empty_builder (replicate 9 0) (array None ∷ dictionary None ∷ text [] ∷ array None ∷ []))) ≡ (Key ∷ Element ∷ Nothing ∷ [])
 unfolding computed behind
 nested = refl
 
 pub worded :
-    words_of (behind empty_builder (replicate 9 0) (array none ∷ dictionary none ∷ text [] ∷ array none ∷ [])) ≡ (5 ∷ 0 ∷ 1 ∷ 3 ∷ 1 ∷ 0 ∷ replicate 14 0)
+    words_of (behind empty_builder (replicate 9 0) (array None ∷ dictionary None ∷ text [] ∷ array None ∷ [])) ≡ (5 ∷ 0 ∷ 1 ∷ 3 ∷ 1 ∷ 0 ∷ replicate 14 0)
 unfolding computed behind
 worded = refl

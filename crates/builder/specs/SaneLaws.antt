@@ -1,11 +1,11 @@
 -- Every state that calls lead to is sane, and where an event leads it is where the grammar says.
-use Rattle.std.specs.Prelude.{Bool, true, false, ◌∷◌, ◌⊎◌, ◌≡◌, refl, eqb}
+use Rattle.std.specs.Prelude.{Bool, true, false, ◌∷◌, ◌⊎◌, ◌≡◌, refl, eqb, min}
 use Rattle.std.proofs.Common.{inl, sym, ◌∙◌, arith, eqb-true, eq-eqb, ne_eqb}
 use Rattle.std.proofs.Math.Logic.{inr}
 use Prim.Native.Nat.{ℕ, zero, suc, ◌+◌, ◌-◌, ◌/◌, ◌≤◌, ◌<◌}
-use Rattle.std.proofs.Math.Numerals.{add-one}
 use Rattle.std.proofs.lemmas.Bool.{eqb-false}
 use Rattle.std.proofs.Math.ListN.{length, length-set}
+use Rattle.std.proofs.Math.Nat.{min-eq_left}
 use Rattle.event.specs.Format.{max_open}
 use Rattle.event.specs.Meaning.{Meaning}
 use Rattle.grammar.specs.Check.{onto, move_of}
@@ -19,8 +19,8 @@ use Rattle.grammar.specs.declared.way.Way.{Way}
 use Rattle.grammar.specs.declared.way.Way.TheVariants.{Past, Into, Out, Barred}
 use Rattle.builder.specs.BitsLaws.{Keeps, pushed}
 use Rattle.builder.specs.FitLaws.{Takes, First, Fits}
-use Rattle.builder.specs.OpenLaws.{least_below, least_some, least_within, length_open, open_top}
-use Rattle.builder.specs.State.{open_words, empty_builder, due_of, code_of, behind_of, least_of, push_of, pop_of, open_from, open_of, moved_by}
+use Rattle.builder.specs.OpenLaws.{length_open, open_top}
+use Rattle.builder.specs.State.{open_words, empty_builder, due_of, code_of, behind_of, push_of, pop_of, open_from, open_of, moved_by}
 use Rattle.builder.specs.declared.state.Builder.{Builder}
 
 -- with nothing open the root or nothing is due, and else an element, a key or a value
@@ -56,7 +56,7 @@ due_some (suc (suc (suc (suc c)))) h = absurd (omega arith)
 
 -- as many are open as the state says
 pub sane_open : (b : Builder) → Sane b → length (open_of b) ≡ b.depth
-sane_open b sane = length_open b ∙ least_below b.depth max_open sane.shallow
+sane_open b sane = length_open b ∙ min-eq_left sane.shallow
 
 -- so the move of an event is its way
 pub sane_moves : (b : Builder) → Sane b → (m : Meaning) → move_of (turn_of (due_of b.due) m) (due_of b.due) (open_of b) ≡ move_by (way_of (due_of b.due) b.depth m) (open_of b)
@@ -132,8 +132,8 @@ module _ (b : Builder) (n : ℕ) (sane : Sane b) where
   follows_into : (first after : Due) → b.depth < max_open → First first → Takes (due_of b.due) → after ≡ after_of (due_of b.due) → Follows b (Into first after) n
   unfolding move_by moved_by open_of push_of
   follows_into first after h i k e =
-      let l : least_of b.depth max_open ≡ b.depth = least_below b.depth max_open sane.shallow in
-      let s : least_of (b.depth + 1) max_open ≡ suc b.depth = least_below (b.depth + 1) max_open (omega arith) ∙ add-one b.depth in
+      let l : min b.depth max_open ≡ b.depth = min-eq_left sane.shallow in
+      let s : min (b.depth + 1) max_open ≡ suc b.depth = omega arith in
       let room : b.depth / 64 < length b.bits = omega (arith, sane.words) in
       let keep : Keeps b.depth after = rw e (keeps b.depth b.due k sane.outside sane.inside) in
       let o : open_from (suc b.depth) (push_of b.bits b.depth after) ≡ after ∷ open_from b.depth b.bits = pushed b.depth after b.bits room keep in (
@@ -144,10 +144,10 @@ module _ (b : Builder) (n : ℕ) (sane : Sane b) where
   follows_out : (b.depth ≡ 0 → ⊥) → Follows b Out n
   unfolding move_by moved_by open_of pop_of
   follows_out h =
-      let d = least_of b.depth max_open in
-      let k : 0 < d = least_some b.depth max_open (omega arith) (omega arith) in
-      let w : d ≤ max_open = least_within b.depth max_open in
-      let l : least_of (d - 1) max_open ≡ d - 1 = least_below (d - 1) max_open (omega arith) in (
+      let d = min b.depth max_open in
+      let k : 0 < d = omega arith in
+      let w : d ≤ max_open = omega arith in
+      let l : min (d - 1) max_open ≡ d - 1 = omega arith in (
         rw (open_top d b.bits k, l),
         record { shallow = omega arith; words = rw length-set sane.words; outside = λ z. inr (behind_outside _ (d - 1) z); inside = λ z. behind_inside _ (d - 1) z },
       )

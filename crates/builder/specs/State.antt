@@ -1,5 +1,5 @@
 -- A builder's state, and where events lead it. docs/FORMAT.md, rules B1 and B2.
-use Rattle.std.specs.Prelude.{cond, List, [], ◌∷◌, ℕ, zero, suc, ◌+◌, ◌-◌, ◌*◌, ◌/◌, ◌%◌, ◌^◌, ltb, eqb, get_or, set, replicate}
+use Rattle.std.specs.Prelude.{cond, List, [], ◌∷◌, ℕ, zero, suc, ◌+◌, ◌-◌, ◌*◌, ◌/◌, ◌%◌, ◌^◌, min, eqb, get_or, set, replicate}
 use Rattle.event.specs.Format.{max_open}
 use Rattle.grammar.specs.declared.turn.Due.{Due}
 use Rattle.grammar.specs.declared.turn.Due.TheVariants.{Root, Element, Key, Value, Nothing}
@@ -42,9 +42,6 @@ pushed_of word due = word % 2 ^ 63 * 2 + bit_of due
 unfoldable pub behind_of : ℕ → ℕ → ℕ
 behind_of word outer = cond (eqb outer 0) 4 (1 + word % 2)
 
-unfoldable pub least_of : ℕ → ℕ → ℕ
-least_of a b = cond (ltb a b) a b
-
 -- the words with one bit more at a level, and one less
 unfoldable pub push_of : List ℕ → ℕ → Due → List ℕ
 push_of bits d due = set bits (d / 64) (pushed_of (get_or bits (d / 64) 0) due)
@@ -59,11 +56,11 @@ open_from (suc d) bits = due_of (behind_of (get_or bits (d / 64) 0) d) ∷ open_
 
 -- B2: more than the limit, which no call leads to, counts as the limit
 unfoldable pub open_of : Builder → List Due
-open_of b = open_from (least_of b.depth max_open) b.bits
+open_of b = open_from (min b.depth max_open) b.bits
 
 -- the state behind an event that is taken, so many bytes then being held
 unfoldable pub moved_by : Way → Builder → ℕ → Builder
 moved_by (Past next) b n = record { held = n; due = code_of next; depth = b.depth; bits = b.bits }
 moved_by (Into first after) b n = record { held = n; due = code_of first; depth = b.depth + 1; bits = push_of b.bits b.depth after }
-moved_by Out b n = record { held = n; due = behind_of (get_or b.bits ((least_of b.depth max_open - 1) / 64) 0) (least_of b.depth max_open - 1); depth = least_of b.depth max_open - 1; bits = pop_of b.bits (least_of b.depth max_open - 1) }
+moved_by Out b n = record { held = n; due = behind_of (get_or b.bits ((min b.depth max_open - 1) / 64) 0) (min b.depth max_open - 1); depth = min b.depth max_open - 1; bits = pop_of b.bits (min b.depth max_open - 1) }
 moved_by (Barred r) b n = b

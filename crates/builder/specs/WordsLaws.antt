@@ -1,5 +1,5 @@
 -- Words that a builder was stored in are that builder again, and a call leads from a builder that words can hold to another.
-use Rattle.std.specs.Prelude.{false, List, [], ◌∷◌, ◌++◌, ◌≡◌, refl, ℕ, zero, suc, ◌+◌, ◌-◌, ◌*◌, ◌/◌, ◌%◌, ◌^◌, ◌≤◌, ◌<◌, length, get_or, set, drop, replicate}
+use Rattle.std.specs.Prelude.{false, List, [], ◌∷◌, ◌++◌, ◌≡◌, refl, ℕ, zero, suc, ◌+◌, ◌-◌, ◌*◌, ◌/◌, ◌%◌, ◌^◌, ◌≤◌, ◌<◌, length, min, get_or, set, drop, replicate}
 use Rattle.std.proofs.Common.{arith, le-ltb, leb-true, length-set}
 use Rattle.std.proofs.lemmas.List.Edits.{sets, sets-eq}
 use Rattle.event.specs.Format.{max_open}
@@ -12,8 +12,7 @@ use Rattle.tape.specs.Code.{bytes_for}
 use Rattle.builder.specs.BitsLaws.{bit_low}
 use Rattle.builder.specs.Build.{Said, holds, refused, judge_of, build_of, builder_by, builder_after}
 use Rattle.builder.specs.CallsLaws.{taken, judge_tells}
-use Rattle.builder.specs.OpenLaws.{least_within}
-use Rattle.builder.specs.State.{open_words, empty_builder, due_of, least_of, pushed_of, push_of, pop_of, moved_by}
+use Rattle.builder.specs.State.{open_words, empty_builder, due_of, pushed_of, push_of, pop_of, moved_by}
 use Rattle.builder.specs.Words.{builder_words, few_words, pair_at, builder_in, words_of, load_of, store_of}
 use Rattle.builder.specs.declared.state.Builder.{Builder}
 
@@ -27,7 +26,8 @@ pub record Small (b : Builder) : Type 0 where
   pub words : length b.bits ≡ open_words
   pub bits_fit : (i : ℕ) → get_or b.bits i 0 < 2 ^ 64
 
-eight : (l : List ℕ) → length l ≡ open_words → get_or l 0 0 ∷ get_or l 1 0 ∷ get_or l 2 0 ∷ get_or l 3 0 ∷ get_or l 4 0 ∷ get_or l 5 0 ∷ get_or l 6 0 ∷ get_or l 7 0 ∷ [] ≡ l
+-- a builder's words are eight
+pub eight : (l : List ℕ) → length l ≡ open_words → get_or l 0 0 ∷ get_or l 1 0 ∷ get_or l 2 0 ∷ get_or l 3 0 ∷ get_or l 4 0 ∷ get_or l 5 0 ∷ get_or l 6 0 ∷ get_or l 7 0 ∷ [] ≡ l
 eight [] e = absurd (omega (arith, e))
 eight (a ∷ []) e = absurd (omega (arith, e))
 eight (a ∷ b ∷ []) e = absurd (omega (arith, e))
@@ -97,8 +97,8 @@ moved_small b n (Past next) k h t = record { held_fits = h; depth_fits = k.depth
 moved_small b n (Into first after) k h t =
     record { held_fits = h; depth_fits = omega arith; words = rw length-set k.words; bits_fit = all_set b.bits (b.depth / 64) (pushed_of (get_or b.bits (b.depth / 64) 0) after) k.bits_fit (pushed_fits _ after) }
 moved_small b n Out k h t =
-    let d = least_of b.depth max_open - 1 in
-    let l : least_of b.depth max_open ≤ max_open = least_within b.depth max_open in
+    let d = min b.depth max_open - 1 in
+    let l : min b.depth max_open ≤ max_open = omega arith in
     let x : get_or b.bits (d / 64) 0 / 2 < 2 ^ 64 = omega (arith, k.bits_fit (d / 64)) in
     record { held_fits = h; depth_fits = omega (arith, l); words = rw length-set k.words; bits_fit = all_set b.bits (d / 64) (get_or b.bits (d / 64) 0 / 2) k.bits_fit x }
 moved_small b n (Barred r) k h t = k

@@ -1,6 +1,6 @@
 // What a builder keeps between calls: numbers alone.
 ghost use Rattle.std.specs.Prelude.{◌≡◌};
-ghost use Rattle.builder.specs.State.{open_words, empty_builder, due_of, code_of, bit_of, pushed_of, behind_of};
+ghost use Rattle.builder.specs.State.{open_words, empty_builder, due_of, pushed_of, behind_of};
 
 use grammar::turn::Due;
 
@@ -41,7 +41,9 @@ impl Builder {
     }
 }
 
-// What a number says is due; any that is none of these is nothing.
+// What a number says is due; any that is none of these is nothing. The way back is `as`.
+// Kept: `Due` and `u32` are both of other crates, and an `impl From` of one for the other can only stand in theirs.
+#[tactic(auto, unfolding(crate::specs::State::due_of))]
 pub(crate) fn due_of(code: u32) -> Due
     ensures { result ≡ due_of code }
 {
@@ -54,39 +56,16 @@ pub(crate) fn due_of(code: u32) -> Due
     }
 }
 
-pub(crate) fn code_of(due: Due) -> u32
-    ensures { result ≡ code_of due }
-{
-    match due {
-        Due::Root => 0,
-        Due::Element => 1,
-        Due::Key => 2,
-        Due::Value => 3,
-        Due::Nothing => 4,
-    }
-}
-
-// The bit of a container behind which this is due.
-fn bit_of(due: Due) -> u64
-    ensures { result ≡ bit_of due }
-{
-    match due {
-        Due::Root => 0,
-        Due::Element => 0,
-        Due::Key => 1,
-        Due::Value => 0,
-        Due::Nothing => 0,
-    }
-}
-
-// A word with one bit more.
+// A word with one bit more: whether a key is due behind the container.
+#[tactic(auto, unfolding(crate::specs::State::bit_of, crate::specs::State::pushed_of))]
 pub(crate) fn pushed(word: u64, due: Due) -> u64
     ensures { result ≡ pushed_of word due }
 {
-    word % 0x8000_0000_0000_0000 * 2 + bit_of(due)
+    word % 0x8000_0000_0000_0000 * 2 + u64::from(matches!(due, Due::Key))
 }
 
 // What is due behind the innermost container, as a number: by its word, where so many are open around it.
+#[tactic(auto, unfolding(crate::specs::State::behind_of))]
 pub(crate) fn behind(word: u64, outer: usize) -> u32
     ensures { result ≡ behind_of word outer }
 {

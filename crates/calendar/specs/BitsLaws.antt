@@ -1,6 +1,5 @@
 -- Laws of the floor of 64 bits: what the exponent's field and the digits say of it.
-use Rattle.std.specs.Prelude.{Bool, true, false, cond, ◌≡◌, refl, ℕ, zero, suc, ◌+◌, ◌-◌, ◌*◌, ◌/◌, ◌%◌, ◌^◌, ◌≤◌, ◌<◌, leb, eqb, ℤ, pos, negsuc, neg_ℤ}
-use Rattle.std.proofs.Math.Option.{none, some}
+use Rattle.std.specs.Prelude.{Bool, true, false, cond, ◌≡◌, refl, ℕ, zero, suc, ◌+◌, ◌-◌, ◌*◌, ◌/◌, ◌%◌, ◌^◌, ◌≤◌, ◌<◌, leb, eqb, ℤ, pos, negsuc, neg_ℤ, None, Some}
 use Rattle.std.proofs.Common.{sym, ap, ap₂, subst, ◌∙◌, mul-one, one-mul, mul_comm, mul_assoc, mul-pos, div-add-mod', mod-eq_of_lt, lt_of_lt_of_le, le-div_iff_mul-le, mul-le-mul, add-zero, arith, le-ltb, le-leb, eq-eqb, ne_eqb, eqb-true, lit<, pow_pos, pow_mono, pow-add, shl_lt, shr_lt, shl_exact}
 use Rattle.std.proofs.Math.Nat.{mul-mod_left, mul-div-mul_right, eq_of_mul-eq-mul_left, div-eq_of_lt}
 use Rattle.std.proofs.lemmas.Bool.{lt-leb, eqb-false}
@@ -8,7 +7,6 @@ use Rattle.std.specs.Float.{nan, inf, binary64}
 use Rattle.std.specs.Float.Ieee.{up, down, minus, odd, of_fields, of_bits}
 use Rattle.std.specs.Int.Count.{count_trailing_zeros}
 use Rattle.std.specs.Float.Ieee.Digits.{odd_val}
-use Rattle.calendar.specs.declared.floor.Since.TheVariants.{Outside}
 use Rattle.calendar.specs.declared.floor.Split.{Split}
 use Rattle.calendar.specs.Date.{since_whole, since_floor, since_of}
 use Rattle.calendar.specs.Floor.{ceiling, floor_fraction, floor_of, floor_of_bits}
@@ -50,24 +48,24 @@ pub down_pos : (e : ℤ) → 0 < down e
 down_pos (pos k) = lit< tt
 down_pos (negsuc k) = pow_pos (suc k)
 
-floor_odd : (d : ℕ) (s : Bool) (q k l : ℕ) → floor_of (odd d s q k l) ≡ some (floor_fraction s (q * 2 ^ k) (2 ^ l))
+floor_odd : (d : ℕ) (s : Bool) (q k l : ℕ) → floor_of (odd d s q k l) ≡ Some (floor_fraction s (q * 2 ^ k) (2 ^ l))
 unfolding odd floor_of
-floor_odd d s zero k l = ap some (same_fraction s (0 * up (pos 0)) (down (pos 0)) (0 * 2 ^ k) (2 ^ l) (down_pos (pos 0)) (pow_pos l) (odd_val d s zero k l))
+floor_odd d s zero k l = ap Some (same_fraction s (0 * up (pos 0)) (down (pos 0)) (0 * 2 ^ k) (2 ^ l) (down_pos (pos 0)) (pow_pos l) (odd_val d s zero k l))
 floor_odd d s (suc q) k l =
     let t = count_trailing_zeros d (suc q) in
     let e = minus (k + t) l in
-    ap some (same_fraction s (suc q / 2 ^ t * up e) (down e) (suc q * 2 ^ k) (2 ^ l) (down_pos e) (pow_pos l) (odd_val d s (suc q) k l))
+    ap Some (same_fraction s (suc q / 2 ^ t * up e) (down e) (suc q * 2 ^ k) (2 ^ l) (down_pos e) (pow_pos l) (odd_val d s (suc q) k l))
 
-floor_fields : (s : Bool) (x t : ℕ) → (x ≡ 2047 → ⊥) → floor_of (of_fields binary64 s x t) ≡ some (floor_fraction s (units_at x t) (2 ^ 1074))
+floor_fields : (s : Bool) (x t : ℕ) → (x ≡ 2047 → ⊥) → floor_of (of_fields binary64 s x t) ≡ Some (floor_fraction s (units_at x t) (2 ^ 1074))
 unfolding of_fields units_at
-floor_fields s zero t h = floor_odd 53 s t 0 1074 ∙ ap (λ (a : ℕ). some (floor_fraction s a (2 ^ 1074))) (mul-one t)
+floor_fields s zero t h = floor_odd 53 s t 0 1074 ∙ ap (λ (a : ℕ). Some (floor_fraction s a (2 ^ 1074))) (mul-one t)
 floor_fields s (suc x) t h = rw (ne_eqb (suc x) 2047 h) (floor_odd 53 s (2 ^ 52 + t) x 1074)
 
-no_floor : (s : Bool) (x t : ℕ) → x ≡ 2047 → floor_of (of_fields binary64 s x t) ≡ none
+no_floor : (s : Bool) (x t : ℕ) → x ≡ 2047 → floor_of (of_fields binary64 s x t) ≡ None
 unfolding of_fields floor_of
 no_floor s x t h = rw h (go (eqb t 0))
   where
-    go : (b : Bool) → floor_of (cond b (inf s) nan) ≡ none
+    go : (b : Bool) → floor_of (cond b (inf s) nan) ≡ None
     go true = refl
     go false = refl
 
@@ -150,15 +148,15 @@ whole_small low h =
 -- ---- the floor of 64 bits
 
 -- the sign, the field and the digits of a pattern
-pub floor_bits : (b : ℕ) → (b % 2 ^ 63 / 2 ^ 52 ≡ 2047 → ⊥) → floor_of_bits b ≡ some (floor_fraction (leb (2 ^ 63) b) (units_at (b % 2 ^ 63 / 2 ^ 52) (b % 2 ^ 52)) (2 ^ 1074))
+pub floor_bits : (b : ℕ) → (b % 2 ^ 63 / 2 ^ 52 ≡ 2047 → ⊥) → floor_of_bits b ≡ Some (floor_fraction (leb (2 ^ 63) b) (units_at (b % 2 ^ 63 / 2 ^ 52) (b % 2 ^ 52)) (2 ^ 1074))
 unfolding of_bits floor_of_bits
 floor_bits b h = floor_fields (leb (2 ^ 63) b) (b % 2 ^ 63 / 2 ^ 52) (b % 2 ^ 52) h
 
-pub no_floor_bits : (b : ℕ) → b % 2 ^ 63 / 2 ^ 52 ≡ 2047 → floor_of_bits b ≡ none
+pub no_floor_bits : (b : ℕ) → b % 2 ^ 63 / 2 ^ 52 ≡ 2047 → floor_of_bits b ≡ None
 unfolding of_bits floor_of_bits
 no_floor_bits b h = no_floor (leb (2 ^ 63) b) (b % 2 ^ 63 / 2 ^ 52) (b % 2 ^ 52) h
 
-far : (s : Bool) (a c : ℕ) → 2 ^ 38 ≤ a / c → since_whole (floor_fraction s a c) ≡ Outside
+far : (s : Bool) (a c : ℕ) → 2 ^ 38 ≤ a / c → since_whole (floor_fraction s a c) ≡ None
 unfolding floor_fraction ceiling since_whole
 far false a c h = rw (le-ltb (a / c) 252_423_993_600 (omega arith))
 far true a c h = since_far_below (cond (eqb (a % c) 0) (a / c) (a / c + 1)) (go (eqb (a % c) 0))
@@ -168,11 +166,11 @@ far true a c h = since_far_below (cond (eqb (a % c) 0) (a / c) (a / c + 1)) (go 
     go false = omega arith
 
 -- from 2 ^ 38 on nothing is in the range
-pub since_far : (b : ℕ) → 1061 * 2 ^ 52 ≤ b % 2 ^ 63 → since_of b ≡ Outside
+pub since_far : (b : ℕ) → 1061 * 2 ^ 52 ≤ b % 2 ^ 63 → since_of b ≡ None
 unfolding since_of since_floor
 since_far b h = go (eqb (b % 2 ^ 63 / 2 ^ 52) 2047) refl
   where
-    go : (t : Bool) → eqb (b % 2 ^ 63 / 2 ^ 52) 2047 ≡ t → since_of b ≡ Outside
+    go : (t : Bool) → eqb (b % 2 ^ 63 / 2 ^ 52) 2047 ≡ t → since_of b ≡ None
     go true e = rw (no_floor_bits b (eqb-true _ _ e), since_of)
     go false e =
         let x = b % 2 ^ 63 / 2 ^ 52 in

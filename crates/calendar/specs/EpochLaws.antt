@@ -1,8 +1,7 @@
 -- Laws of the seconds since 2001: a day and time and its seconds give each other.
-use Rattle.std.specs.Prelude.{Bool, true, false, ◌≡◌, refl, ℕ, suc, ◌+◌, ◌-◌, ◌≤◌, ◌<◌, ltb, ℤ, pos, negsuc, ◌-ℤ◌}
+use Rattle.std.specs.Prelude.{Bool, true, false, ◌≡◌, refl, ℕ, suc, ◌+◌, ◌-◌, ◌≤◌, ◌<◌, ltb, ℤ, pos, negsuc, ◌-ℤ◌, Some}
 use Rattle.std.proofs.Common.{sym, ap, ◌∙◌, arith, lt-ltb, le-ltb, ltb-true, ltb-false, SFits}
 use Rattle.std.specs.Int.{w64}
-use Rattle.calendar.specs.declared.floor.Since.TheVariants.{Seconds}
 use Rattle.calendar.specs.declared.Time.{Time}
 use Rattle.calendar.specs.Count.{total}
 use Rattle.calendar.specs.Calendar.{days_in_year, days_in_month, days_before_year, days_before_month, days_since_one, clock_of, is_time, seconds_since_one, time_since_one, epoch, seconds_since_epoch}
@@ -36,19 +35,19 @@ difference_fits r h = go (ltb r 63_113_904_000) refl
     go false e = rw (after_epoch r (ltb-false _ _ e)) (record { sfits = omega arith })
 
 -- seconds since year one are told by their difference from the epoch
-pub since_difference : (r : ℕ) → r < 315_537_897_600 → since_whole (pos r -ℤ pos 63_113_904_000) ≡ Seconds r
+pub since_difference : (r : ℕ) → r < 315_537_897_600 → since_whole (pos r -ℤ pos 63_113_904_000) ≡ Some r
 unfolding since_whole
 since_difference r h = go (ltb r 63_113_904_000) refl
   where
-    go : (b : Bool) → ltb r 63_113_904_000 ≡ b → since_whole (pos r -ℤ pos 63_113_904_000) ≡ Seconds r
+    go : (b : Bool) → ltb r 63_113_904_000 ≡ b → since_whole (pos r -ℤ pos 63_113_904_000) ≡ Some r
     go true e =
         let l : r < 63_113_904_000 = ltb-true _ _ e in
-        rw (before_epoch r l, lt-ltb (63_113_904_000 - suc r) 63_113_904_000 (omega arith)) (ap Seconds (let q : 63_113_904_000 - suc (63_113_904_000 - suc r) ≡ r = omega arith in q))
+        rw (before_epoch r l, lt-ltb (63_113_904_000 - suc r) 63_113_904_000 (omega arith)) (ap Some (let q : 63_113_904_000 - suc (63_113_904_000 - suc r) ≡ r = omega arith in q))
     go false e =
         let l : 63_113_904_000 ≤ r = ltb-false _ _ e in
-        rw (after_epoch r l, lt-ltb (r - 63_113_904_000) 252_423_993_600 (omega arith)) (ap Seconds (let q : 63_113_904_000 + (r - 63_113_904_000) ≡ r = omega arith in q))
+        rw (after_epoch r l, lt-ltb (r - 63_113_904_000) 252_423_993_600 (omega arith)) (ap Some (let q : 63_113_904_000 + (r - 63_113_904_000) ≡ r = omega arith in q))
 
-pub difference_since : (z : ℤ) (n : ℕ) → since_whole z ≡ Seconds n → pos n -ℤ pos 63_113_904_000 ≡ z
+pub difference_since : (z : ℤ) (n : ℕ) → since_whole z ≡ Some n → pos n -ℤ pos 63_113_904_000 ≡ z
 unfolding since_whole
 difference_since (pos m) n e =
     let o = only (ltb m 252_423_993_600) (63_113_904_000 + m) n e in
@@ -68,7 +67,7 @@ there_and_back t h =
     rw (epoch_is, since_difference (seconds_since_one t) (seconds_in_range t v)) (ap gives (time_again t v))
 
 -- the seconds of the day and time of whole seconds in the range are these again
-pub back_and_there : (z : ℤ) (n : ℕ) → since_whole z ≡ Seconds n → seconds_of (time_since_one n) ≡ gives z
+pub back_and_there : (z : ℤ) (n : ℕ) → since_whole z ≡ Some n → seconds_of (time_since_one n) ≡ gives z
 unfolding seconds_of seconds_since_epoch
 back_and_there z n e =
     let l = whole_range z n e in

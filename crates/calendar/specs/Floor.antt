@@ -1,7 +1,6 @@
 -- The floor of the number that 64 bits are. IEEE 754's values are the kit's (`lib.Ieee`): `fin s m e` is the number m * 2 ^ e, negative where s
 -- is true, and 2 ^ e is the fraction `up e / down e`. docs/FORMAT.md, C5.
-use Rattle.std.specs.Prelude.{Bool, true, false, cond, ℕ, ◌+◌, ◌*◌, ◌/◌, ◌%◌, eqb, ℤ, pos, neg_ℤ, Float}
-use Rattle.std.proofs.Math.Option.{Option, none, some}
+use Rattle.std.specs.Prelude.{Bool, true, false, cond, ℕ, ◌+◌, ◌*◌, ◌/◌, ◌%◌, eqb, ℤ, pos, neg_ℤ, Float, None, Option, Some}
 use Rattle.std.specs.Float.{nan, inf, fin, binary64}
 use Rattle.std.specs.Float.Ieee.{up, down, of_bits}
 
@@ -16,9 +15,9 @@ floor_fraction true a b = neg_ℤ (pos (ceiling a b))
 
 -- NaNs and infinities have none
 unfoldable pub floor_of : Float → Option ℤ
-floor_of nan = none
-floor_of (inf s) = none
-floor_of (fin s m e) = some (floor_fraction s (m * up e) (down e))
+floor_of nan = None
+floor_of (inf s) = None
+floor_of (fin s m e) = Some (floor_fraction s (m * up e) (down e))
 
 unfoldable pub floor_of_bits : ℕ → Option ℤ
 floor_of_bits bits = floor_of (of_bits binary64 bits)

@@ -1,6 +1,6 @@
 -- The floor is the greatest whole number at or below a number; and since both ends of the range are whole, a number lies in it exactly when its
 -- floor does.
-use Rattle.std.specs.Prelude.{Bool, ◌≡◌, ℕ, zero, suc, ◌+◌, ◌*◌, ◌/◌, ◌%◌, ◌≤◌, ◌<◌, ltb, leb, ℤ, pos, negsuc, neg_ℤ, Float}
+use Rattle.std.specs.Prelude.{Bool, ◌≡◌, ℕ, zero, suc, ◌+◌, ◌*◌, ◌/◌, ◌%◌, ◌≤◌, ◌<◌, ltb, leb, ℤ, pos, negsuc, neg_ℤ, Float, Option, None, Some}
 use Rattle.std.proofs.Math.Bool.{true, false, cond}
 use Rattle.std.proofs.Common.{true≢false, sym, ◌∙◌, div-lt_iff_lt-mul, le-div_iff_mul-le, mul-le-mul_right, add-mul, one-mul, mul-pos}
 use Rattle.std.proofs.lemmas.Bool.{false≢true}
@@ -13,8 +13,6 @@ use Rattle.std.specs.Float.{nan, inf, fin, binary64}
 use Rattle.std.specs.Float.Ieee.{up, down, of_bits}
 use Rattle.std.specs.Int.Signed.{le_z}
 use Rattle.calendar.specs.declared.Time.{Time}
-use Rattle.calendar.specs.declared.floor.Since.{Since}
-use Rattle.calendar.specs.declared.floor.Since.TheVariants.{Seconds, Outside}
 use Rattle.calendar.specs.BitsLaws.{down_pos}
 use Rattle.calendar.specs.Calendar.{time_since_one}
 use Rattle.calendar.specs.Date.{Said, gives, refused, since_whole, since_floor, since_of, time_since, calendar_of}
@@ -110,19 +108,19 @@ judged true m e = go (leb (m * up e) (63_113_904_000 * down e)) refl
     go true p = rw (since_below (ceiling a (down e)) (ceiling_least a (down e) (down_pos e) 63_113_904_000 (leb-true _ _ p))) (sym p)
     go false p = rw (since_far_below (ceiling a (down e)) (ceiling_above a (down e) (down_pos e) 63_113_904_000 (leb-false _ _ p))) (sym p)
 
-outside : (s : Since) → lies s ≡ false → time_since s ≡ refused 30
+outside : (s : Option ℕ) → lies s ≡ false → time_since s ≡ refused 30
 unfolding lies time_since
-outside (Seconds n) e = absurd (true≢false e)
-outside Outside e = refl
+outside (Some n) e = absurd (true≢false e)
+outside None e = refl
 
 pub record Given (r : Said Time) : Type 0 where
   pub time : Time
   pub is : r ≡ gives time
 
-inside : (s : Since) → lies s ≡ true → Given (time_since s)
+inside : (s : Option ℕ) → lies s ≡ true → Given (time_since s)
 unfolding lies time_since
-inside (Seconds n) e = record { time = time_since_one n; is = refl }
-inside Outside e = absurd (false≢true e)
+inside (Some n) e = record { time = time_since_one n; is = refl }
+inside None e = absurd (false≢true e)
 
 -- judging the number and judging its floor is the same
 pub number_judged : (x : Float) → lies (since_floor (floor_of x)) ≡ in_range x

@@ -1,5 +1,5 @@
 // Years, in days.
-ghost use Rattle.std.specs.Prelude.{◌≡◌, ◌<◌, ◌≤◌, min};
+ghost use Rattle.std.specs.Prelude.{◌≡◌, ◌<◌, ◌≤◌};
 ghost use Rattle.calendar.specs.Calendar.{is_leap, days_in_year, days_before_year};
 ghost use Rattle.calendar.specs.Count.{count_off};
 
@@ -10,16 +10,11 @@ pub(crate) struct Place {
     pub rest: u32,
 }
 
+#[tactic(auto, using(number::specs::Tests::tests), unfolding(crate::specs::Calendar::is_leap))]
 pub(crate) fn is_leap(year: u32) -> bool
     ensures { result ≡ is_leap year }
 {
-    if year % 400 == 0 {
-        return true;
-    }
-    if year % 100 == 0 {
-        return false;
-    }
-    year % 4 == 0
+    year % 400 == 0 || (year % 100 != 0 && year % 4 == 0)
 }
 
 // The days of the years before one: 365 each, and the leap days.
@@ -27,10 +22,7 @@ pub(crate) fn days_before_year(year: u32) -> u32
     requires { year ≤ 9999 }
     ensures { result ≡ days_before_year year }
 {
-    if year < 1 {
-        return 0;
-    }
-    let n = year - 1;
+    let n = year.saturating_sub(1);
     365 * n + n / 4 + n / 400 - n / 100
 }
 
@@ -42,19 +34,13 @@ pub(crate) fn year_of(days: u32) -> Place
 {
     let cycles = days / 146_097;
     let in_cycle = days % 146_097;
-    let hundreds = at_most_three(in_cycle / 36_524);
+    let hundreds = (in_cycle / 36_524).min(3);
     let in_hundred = in_cycle - 36_524 * hundreds;
     let fours = in_hundred / 1461;
     let in_four = in_hundred % 1461;
-    let ones = at_most_three(in_four / 365);
+    let ones = (in_four / 365).min(3);
     Place {
         part: 400 * cycles + 100 * hundreds + 4 * fours + ones + 1,
         rest: in_four - 365 * ones,
     }
-}
-
-fn at_most_three(x: u32) -> u32
-    ensures { result ≡ min x 3 }
-{
-    if x < 3 { x } else { 3 }
 }

@@ -3,27 +3,21 @@ ghost use Rattle.std.specs.Prelude.{◌≡◌, ◌<◌, pos, neg_ℤ};
 ghost use Rattle.calendar.specs.Date.{since_of, since_whole};
 ghost use Rattle.calendar.specs.Split.{split_of};
 
-// Seconds since 0001-01-01 00:00:00, or that they lie outside the range.
-#[derive(Clone, Copy)]
-pub(crate) enum Since {
-    Seconds(u64),
-    Outside,
-}
-
 // A magnitude: its whole part, and whether that is all of it.
+// Kept: no value is missing where the flag is not set, so this is no Option.
 #[derive(Clone, Copy)]
 struct Split {
     whole: u64,
     exact: bool,
 }
 
-// The number is one of seconds since 2001. From 2^38 on, either way, all numbers are outside, infinities and NaNs too.
-pub(crate) fn since_of(bits: u64) -> Since
+// Seconds since 0001-01-01 00:00:00, if they lie in the range. The number is one of seconds since 2001. From 2^38 on, either way, all numbers are outside, infinities and NaNs too.
+pub(crate) fn since_of(bits: u64) -> Option<u64>
     ensures { result ≡ since_of bits }
 {
     let low = bits % 0x8000_0000_0000_0000;
     if 0x4250_0000_0000_0000 <= low {
-        return Since::Outside;
+        return None;
     }
     let split = split_of(low);
     if bits < 0x8000_0000_0000_0000 {
@@ -36,23 +30,23 @@ pub(crate) fn since_of(bits: u64) -> Since
 }
 
 // So many seconds after 2001-01-01.
-fn at_or_after(whole: u64) -> Since
+#[tactic(auto, using(number::specs::Tests::tests), unfolding(crate::specs::Date::since_whole))]
+fn at_or_after(whole: u64) -> Option<u64>
     ensures { result ≡ since_whole (pos whole) }
 {
     if whole < 252_423_993_600 {
-        return Since::Seconds(63_113_904_000 + whole);
+        Some(63_113_904_000 + whole)
+    } else {
+        None
     }
-    Since::Outside
 }
 
 // So many seconds before it.
-fn at_or_before(whole: u64) -> Since
+#[tactic(auto, using(crate::specs::RangeLaws::since_below, crate::specs::RangeLaws::since_far_below))]
+fn at_or_before(whole: u64) -> Option<u64>
     ensures { result ≡ since_whole (neg_ℤ (pos whole)) }
 {
-    if whole <= 63_113_904_000 {
-        return Since::Seconds(63_113_904_000 - whole);
-    }
-    Since::Outside
+    63_113_904_000u64.checked_sub(whole)
 }
 
 // The magnitude of a number below 2^38, by its bits without the sign: the exponent's field says where the digits are cut.

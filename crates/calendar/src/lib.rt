@@ -10,7 +10,7 @@ ghost use Rattle.calendar.specs.Calendar.{is_time, is_day, is_clock, seconds_sin
 ghost use Rattle.calendar.specs.Date.{calendar_of, seconds_of, dated_said, seconds_said};
 
 use crate::days::{days_before_year, year_of};
-use crate::floor::{Since, since_of};
+use crate::floor::since_of;
 use crate::months::{days_before_month, days_in_month, month_of};
 
 // A day and a time. Any numbers may stand here; `seconds_of` says whether there is such a day and time.
@@ -24,82 +24,48 @@ pub struct Time {
     pub second: u32,
 }
 
-// OutOfRange is refusal 30.
-#[derive(Clone, Copy)]
-pub enum Dated {
-    At(Time),
-    OutOfRange,
-}
-
-// NoSuchTime is refusal 30.
-#[derive(Clone, Copy)]
-pub enum Seconds {
-    Of(i64),
-    NoSuchTime,
-}
-
-// The day and time of a date's 64 bits. They are seconds since 2001-01-01 00:00:00; a fraction goes down.
-pub fn calendar_of(bits: u64) -> Dated
+// The day and time of a date's 64 bits, or none (30). They are seconds since 2001-01-01 00:00:00; a fraction goes down.
+pub fn calendar_of(bits: u64) -> Option<Time>
     ensures { dated_said result ≡ calendar_of bits }
 {
-    let Since::Seconds(seconds) = since_of(bits) else {
-        return Dated::OutOfRange;
-    };
-    Dated::At(time_since_one(seconds))
+    let seconds = since_of(bits)?;
+    Some(time_since_one(seconds))
 }
 
-// The whole seconds from 2001-01-01 00:00:00 to a day and time.
-pub fn seconds_of(time: Time) -> Seconds
+// The whole seconds from 2001-01-01 00:00:00 to a day and time, or none where there is no such day and time (30).
+pub fn seconds_of(time: Time) -> Option<i64>
     ensures { seconds_said result ≡ seconds_of time }
 {
     if is_time(time) {
         let seconds = seconds_since_one(time);
-        return Seconds::Of(seconds as i64 - 63_113_904_000);
+        return Some(seconds as i64 - 63_113_904_000);
     }
-    Seconds::NoSuchTime
+    None
 }
 
 // Whether there is such a day and time.
+#[tactic(auto, unfolding(crate::specs::Calendar::is_time))]
 fn is_time(time: Time) -> bool
     ensures { result ≡ is_time time }
 {
-    if is_day(time.year, time.month, time.day) {
-        return is_clock(time.hour, time.minute, time.second);
-    }
-    false
+    is_day(time.year, time.month, time.day) && is_clock(time.hour, time.minute, time.second)
 }
 
+#[tactic(auto, using(number::specs::Tests::tests), unfolding(crate::specs::Calendar::is_day))]
 fn is_day(year: u32, month: u32, day: u32) -> bool
     ensures { result ≡ is_day year month day }
 {
-    if year < 1 {
-        return false;
-    }
-    if 9999 < year {
-        return false;
-    }
-    if month < 1 {
-        return false;
-    }
-    if 12 < month {
-        return false;
-    }
-    if day < 1 {
-        return false;
-    }
-    day <= days_in_month(year, month)
+    (1..=9999).contains(&year)
+        && (1..=12).contains(&month)
+        && 1 <= day
+        && day <= days_in_month(year, month)
 }
 
+#[tactic(auto, using(number::specs::Tests::tests), unfolding(crate::specs::Calendar::is_clock))]
 fn is_clock(hour: u32, minute: u32, second: u32) -> bool
     ensures { result ≡ is_clock hour minute second }
 {
-    if 23 < hour {
-        return false;
-    }
-    if 59 < minute {
-        return false;
-    }
-    second <= 59
+    hour <= 23 && minute <= 59 && second <= 59
 }
 
 // Seconds since 0001-01-01 00:00:00.

@@ -5,20 +5,14 @@ ghost use Rattle.calendar.specs.Count.{count_off};
 
 use crate::days::{Place, is_leap};
 
+#[tactic(auto, using(number::specs::Tests::tests), unfolding(crate::specs::Calendar::days_in_month))]
 pub(crate) fn days_in_month(year: u32, month: u32) -> u32
     ensures { result ≡ days_in_month year month }
 {
-    if month == 2 {
-        if is_leap(year) {
-            return 29;
-        }
-        return 28;
-    }
     match month {
-        4 => 30,
-        6 => 30,
-        9 => 30,
-        11 => 30,
+        2 if is_leap(year) => 29,
+        2 => 28,
+        4 | 6 | 9 | 11 => 30,
         _ => 31,
     }
 }
@@ -27,23 +21,15 @@ pub(crate) fn days_in_month(year: u32, month: u32) -> u32
 pub(crate) fn month_of(year: u32, days: u32) -> Place
     ensures { result ≡ count_off (days_in_month year) 11 1 days }
 {
-    let mut month = 1;
     let mut rest = days;
-    while month < 12 {
+    for month in 1..12 {
         let size = days_in_month(year, month);
         if rest < size {
-            return Place {
-                part: month,
-                rest: rest,
-            };
+            return Place { part: month, rest };
         }
         rest -= size;
-        month += 1;
     }
-    Place {
-        part: month,
-        rest: rest,
-    }
+    Place { part: 12, rest }
 }
 
 // The days of the months before one.
@@ -52,11 +38,8 @@ pub(crate) fn days_before_month(year: u32, month: u32) -> u32
     ensures { result ≡ days_before_month year month }
 {
     let mut days = 0;
-    let mut i = 1;
-    while i < month {
-        let size = days_in_month(year, i);
-        days += size;
-        i += 1;
+    for before in 1..month {
+        days += days_in_month(year, before);
     }
     days
 }

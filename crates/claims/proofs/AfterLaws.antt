@@ -1,5 +1,5 @@
 -- The state after each answer is what After says, whatever file is lent to whatever state.
-use Rattle.std.specs.Prelude.{Bool, true, cond, not, ◌&&◌, List, [], ◌≡◌, ℕ, suc, ◌+◌, ◌*◌, ltb, leb, length, get_or}
+use Rattle.std.specs.Prelude.{Bool, true, cond, not, ◌&&◌, List, [], ◌≡◌, ℕ, suc, ◌+◌, ◌*◌, ltb, leb, length, get_or, None, Option, Some}
 use Rattle.std.proofs.Math.Bool.{false}
 use Rattle.std.proofs.Math.Path.{refl}
 use Rattle.std.proofs.Common.{add-one, arith}
@@ -7,8 +7,6 @@ use borrow.Author.Tests.{leb-true, eqb-true, ne_eqb}
 use Rattle.std.proofs.Math.Dec.{eqb}
 use Rattle.number.specs.Among.{among, among_more, among_not}
 use Rattle.number.specs.Width.{bytes_in, width_of}
-use Rattle.number.specs.declared.width.Size.{Size}
-use Rattle.number.specs.declared.width.Size.TheVariants.{Allowed, NotAllowed}
 use Rattle.number.specs.declared.width.Width.{Width}
 use Rattle.event.specs.Format.{magic}
 use Rattle.object.specs.Content.{trailer_at}
@@ -69,15 +67,15 @@ module _ (file : List ℕ) (r : Reader) where
   follow_leaves l (Close offset) = tt
   follow_leaves l (Member n) = arrive_leaves r l n (look_of file l n) (look_right file l n) (λ e. refl)
 
-  refs_leaves : (offsets : Width) (s : Size) → Leaves (with_refs file r offsets s)
+  refs_leaves : (offsets : Width) (s : Option Width) → Leaves (with_refs file r offsets s)
   unfolding with_refs step_of
-  refs_leaves offsets (Allowed refs) = follow_leaves _ ((source_of file _).due (innermost r))
-  refs_leaves offsets NotAllowed = wrong_leaves
+  refs_leaves offsets (Some refs) = follow_leaves _ ((source_of file _).due (innermost r))
+  refs_leaves offsets None = wrong_leaves
 
-  go_leaves : (s t : Size) → Leaves (go_on file r s t)
+  go_leaves : (s t : Option Width) → Leaves (go_on file r s t)
   unfolding go_on
-  go_leaves (Allowed offsets) t = refs_leaves offsets t
-  go_leaves NotAllowed t = wrong_leaves
+  go_leaves (Some offsets) t = refs_leaves offsets t
+  go_leaves None t = wrong_leaves
 
   -- the trailer
   abbrev Begins : Trailer → Type 0
@@ -92,15 +90,15 @@ module _ (file : List ℕ) (r : Reader) where
   unfolding table_of begin unchanged
   table_leaves offsets refs = either Begins (leb (eight_at file 24 + eight_at file 8 * bytes_in offsets) (trailer_at file)) _ _ (λ e. laid_leaves _ (eight_at file 16) (leb-true _ _ e)) (λ e. refl)
 
-  ref_leaves : (offsets : Width) (s : Size) → Leaves (begin file r (ref_size_of file offsets s))
+  ref_leaves : (offsets : Width) (s : Option Width) → Leaves (begin file r (ref_size_of file offsets s))
   unfolding ref_size_of begin unchanged
-  ref_leaves offsets (Allowed refs) = table_leaves offsets refs
-  ref_leaves offsets NotAllowed = either Begins (eqb (get_or file (trailer_at file + 7) 0) 0) _ _ (λ e. rw e) (λ e. rw e)
+  ref_leaves offsets (Some refs) = table_leaves offsets refs
+  ref_leaves offsets None = either Begins (eqb (get_or file (trailer_at file + 7) 0) 0) _ _ (λ e. rw e) (λ e. rw e)
 
-  sizes_leaves : (s : Size) → Leaves (begin file r (sizes_of file s))
+  sizes_leaves : (s : Option Width) → Leaves (begin file r (sizes_of file s))
   unfolding sizes_of begin unchanged
-  sizes_leaves (Allowed offsets) = ref_leaves offsets (width_of (get_or file (trailer_at file + 7) 0))
-  sizes_leaves NotAllowed = refl
+  sizes_leaves (Some offsets) = ref_leaves offsets (width_of (get_or file (trailer_at file + 7) 0))
+  sizes_leaves None = refl
 
   begin_leaves : Leaves (begin file r (trailer_of file))
   unfolding trailer_of begin unchanged

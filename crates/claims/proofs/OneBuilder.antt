@@ -1,6 +1,6 @@
 -- Each contract of the builder's public functions, and of those that were made public for it, leaves one answer and one content of all lent memory.
+use Rattle.std.specs.Prelude.{Option}
 use mathlib.Core.List.{List, []}
-use mathlib.Core.Option.{Option}
 use mathlib.Core.Path.{◌≡◌, refl, sym, ◌∙◌}
 use Prim.Native.Nat.{ℕ}
 use borrow.Fn.Kinds.{Dens, ended_of, res_t}
@@ -31,14 +31,8 @@ use Rattle.builder.proofs.words.store.Kinds as store-kinds
 use Rattle.builder.proofs.words.store.Reads as store-reads
 use Rattle.exports.proofs.tape_append.event_for.Kinds as event-for-kinds
 use Rattle.exports.proofs.tape_append.event_for.Reads as event-for-reads
-use Rattle.exports.proofs.write.write_code.Kinds as write-code-kinds
-use Rattle.exports.proofs.write.write_code.Reads as write-code-reads
-use Rattle.exports.proofs.write.write_value.Kinds as write-value-kinds
-use Rattle.exports.proofs.write.write_value.Reads as write-value-reads
-use Rattle.exports.proofs.write.expected_number.Kinds as expected-number-kinds
-use Rattle.exports.proofs.write.expected_number.Reads as expected-number-reads
-use Rattle.exports.proofs.write.found_number.Kinds as found-number-kinds
-use Rattle.exports.proofs.write.found_number.Reads as found-number-reads
+use Rattle.exports.proofs.write.written_numbers.Kinds as written-numbers-kinds
+use Rattle.exports.proofs.write.written_numbers.Reads as written-numbers-reads
 use Rattle.exports_build.proofs.build.zm_build_begin.Kinds as zm-build-begin-kinds
 use Rattle.exports_build.proofs.build.zm_build_begin.Reads as zm-build-begin-reads
 use Rattle.exports_build.proofs.build.zm_build.Kinds as zm-build-kinds
@@ -100,17 +94,8 @@ finish_words κs a x y e f p q = p.1.1 ∙ sym q.1.1
 event_for_one : OneView 0 event-for-kinds.ps event-for-kinds.r event-for-reads.Post (Option Meaning) (λ κs x. chosen_meaning x [])
 event_for_one κs a x y e f p q = p [] ∙ sym (q [])
 
-write_code_one : One 0 write-code-kinds.ps write-code-kinds.r write-code-reads.Post (Unit {0}) (λ κs e. tt)
-write_code_one κs a x y e f p q = (p ∙ sym q, refl)
-
-write_value_one : One 0 write-value-kinds.ps write-value-kinds.r write-value-reads.Post (Unit {0}) (λ κs e. tt)
-write_value_one κs a x y e f p q = (p ∙ sym q, refl)
-
-expected_number_one : One 0 expected-number-kinds.ps expected-number-kinds.r expected-number-reads.Post (Unit {0}) (λ κs e. tt)
-expected_number_one κs a x y e f p q = (p ∙ sym q, refl)
-
-found_number_one : One 0 found-number-kinds.ps found-number-kinds.r found-number-reads.Post (Unit {0}) (λ κs e. tt)
-found_number_one κs a x y e f p q = (p ∙ sym q, refl)
+written_numbers_one : One 0 written-numbers-kinds.ps written-numbers-kinds.r written-numbers-reads.Post (Unit {0}) (λ κs e. tt)
+written_numbers_one κs a x y e f p q = (p ∙ sym q, refl)
 
 zm_build_begin_one : One 1 zm-build-begin-kinds.ps zm-build-begin-kinds.r zm-build-begin-reads.Post (List ℕ) (λ κs e. e.0.now)
 zm_build_begin_one κs a x y e f p q = (p.0 ∙ sym q.0, p.1 ∙ sym q.1)

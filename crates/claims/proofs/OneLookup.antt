@@ -1,7 +1,7 @@
 -- Each contract of the lookup's public functions leaves one answer and one content of all lent memory; and through the promise of `zm_find`: where it
 -- answers 0, the part that it names is the value under the path.
+use Rattle.std.specs.Prelude.{None, Some}
 use mathlib.Core.List.{List}
-use mathlib.Core.Option.{none, some}
 use mathlib.Core.Path.{◌≡◌, refl, sym, ◌∙◌}
 use Prim.Native.Nat.{ℕ}
 use borrow.Fn.Kinds.{Dens, ended_of, res_t}
@@ -19,10 +19,10 @@ use Rattle.lookup.proofs.FoundLaws.{Holds, found_value, none_value}
 use Rattle.lookup.specs.Path.{keys_of}
 use Rattle.lookup.specs.SaidLaws.{found_said_one}
 use Rattle.lookup.specs.Value.{value_at}
-use Rattle.exports.proofs.write.first_number.Kinds as first-number-kinds
-use Rattle.exports.proofs.write.first_number.Reads as first-number-reads
-use Rattle.exports.proofs.write.second_number.Kinds as second-number-kinds
-use Rattle.exports.proofs.write.second_number.Reads as second-number-reads
+use Rattle.exports.proofs.numbers.Numbers.plain.Kinds as plain-kinds
+use Rattle.exports.proofs.numbers.Numbers.plain.Reads as plain-reads
+use Rattle.exports.proofs.numbers.Numbers.refused.Kinds as refused-kinds
+use Rattle.exports.proofs.numbers.Numbers.refused.Reads as refused-reads
 use Rattle.exports_find.proofs.find.zm_find.Kinds as zm-find-kinds
 use Rattle.exports_find.proofs.find.zm_find.Reads as zm-find-reads
 use Rattle.exports_find.proofs.path_append.zm_path_append.Kinds as zm-path-append-kinds
@@ -41,11 +41,11 @@ find_part_one κs a x y e f p q = p ∙ sym q
 append_key_one : One 2 append-key-kinds.ps append-key-kinds.r append-key-reads.Post (List ℕ) (λ κs e. e.0.now)
 append_key_one κs a x y e f p q = (p.0 ∙ sym q.0, p.1 ∙ sym q.1)
 
-first_number_one : One 0 first-number-kinds.ps first-number-kinds.r first-number-reads.Post (Unit {0}) (λ κs e. tt)
-first_number_one κs a x y e f p q = (p ∙ sym q, refl)
+plain_one : One 0 plain-kinds.ps plain-kinds.r plain-reads.Post (Unit {0}) (λ κs e. tt)
+plain_one κs a x y e f p q = (p ∙ sym q, refl)
 
-second_number_one : One 0 second-number-kinds.ps second-number-kinds.r second-number-reads.Post (Unit {0}) (λ κs e. tt)
-second_number_one κs a x y e f p q = (p ∙ sym q, refl)
+refused_one : One 0 refused-kinds.ps refused-kinds.r refused-reads.Post (Unit {0}) (λ κs e. tt)
+refused_one κs a x y e f p q = (p ∙ sym q, refl)
 
 zm_path_append_one : One 2 zm-path-append-kinds.ps zm-path-append-kinds.r zm-path-append-reads.Post (List ℕ) (λ κs e. e.0.now)
 zm_path_append_one κs a x y e f p q = (p.0 ∙ sym q.0, p.1.0 ∙ sym q.1.0)
@@ -75,5 +75,5 @@ module _ (κs : Lfts 6) (a : Dens κs zm-find-kinds.ps) (x : (res_t zm-find-kind
       rw (post.1.0, post.1.1.0) (found_value t p post.1.1.1.1.1 (find_start (find_of t p)) (find_length (find_of t p)) f)
 
   -- or there is no such value
-  pub zm_find_none : x ≡ 254 → (keys : List (List ℕ)) × (keys_of a.1.0.now ≡ some keys) × (value_at keys (meanings_in a.0.now) ≡ none)
+  pub zm_find_none : x ≡ 254 → (keys : List (List ℕ)) × (keys_of a.1.0.now ≡ Some keys) × (value_at keys (meanings_in a.0.now) ≡ None)
   zm_find_none code = none_value a.0.now a.1.0.now (none_code a.0.now a.1.0.now (sym post.0 ∙ code))

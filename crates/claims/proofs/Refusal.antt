@@ -1,5 +1,5 @@
 -- What a refusal of a step or of a text request leaves: table N of docs/FORMAT.md, for all of 1 to 17, and 31.
-use Rattle.std.specs.Prelude.{Bool, cond, ◌≡◌, ℕ, ltb, length}
+use Rattle.std.specs.Prelude.{Bool, cond, ◌≡◌, ℕ, ltb, length, Some}
 use Rattle.std.proofs.Math.Bool.{true, false}
 use mathlib.Core.List.{List, []}
 use Rattle.std.proofs.Math.Path.{refl}
@@ -9,7 +9,6 @@ use Rattle.utf.specs.Unicode.{to_utf8}
 use Rattle.event.specs.Same.{same}
 use Rattle.event.specs.declared.Event.{Event}
 use Rattle.event.specs.declared.Event.TheVariants.{StartArray, StartDictionary, EndCollection, Boolean, Data, Date, Integer, Real, Nan, String, Uid}
-use Rattle.event.specs.declared.Length.TheVariants.{Given}
 use Rattle.number.specs.Either.{either}
 use Rattle.number.specs.Part.{part}
 use Rattle.object.specs.Object.{Found, object_at}
@@ -85,8 +84,8 @@ start_wrong e (found.scalar f) = refl
 start_wrong e (found.bytes start n) = refl
 start_wrong e (found.utf8 start n) = refl
 start_wrong e (found.utf16 start n) = refl
-start_wrong e (found.array n) = given_wrong (same e (StartArray (Given n)))
-start_wrong e (found.dictionary n) = given_wrong (same e (StartDictionary (Given n)))
+start_wrong e (found.array n) = given_wrong (same e (StartArray (Some n)))
+start_wrong e (found.dictionary n) = given_wrong (same e (StartDictionary (Some n)))
 
 end_wrong : (x : Found) → Wrong (end_asked x)
 unfolding end_asked

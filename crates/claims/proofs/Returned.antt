@@ -1,9 +1,9 @@
 -- From the definition to the code: what `next` returns, call after call on one file, is what `runs` and `answer_of` say. So what is claimed of these is
 -- claimed of the code: of the readers and the answers that it returns, by their numbers (docs/FORMAT.md, N).
+use mathlib.Core.Option.{some}
 use mathlib.Core.Bool.{true}
 use mathlib.Core.List.{List, [], ◌∷◌}
 use mathlib.Core.Logic.{◌⊎◌, inl, inr, ◌↔◌}
-use mathlib.Core.Option.{some}
 use mathlib.Core.Path.{◌≡◌, refl, sym, ap, ◌∙◌}
 use Prim.Native.Nat.{ℕ, zero, suc, ◌+◌, ◌-◌, ◌^◌, ◌≤◌, ◌<◌}
 use native.Mathlib.Omega.{arith}

@@ -1,6 +1,6 @@
 -- The open containers are different objects, each named by the one around it; so there are never more than the file has objects.
-use Rattle.std.specs.Prelude.{List, ◌≡◌, ℕ, suc, ◌-◌, ◌≤◌, ◌<◌}
 use Rattle.std.proofs.Math.Option.{some}
+use Rattle.std.specs.Prelude.{List, ◌≡◌, ℕ, suc, ◌-◌, ◌≤◌, ◌<◌}
 use Rattle.std.proofs.Common.{arith}
 use Rattle.std.proofs.Math.ListN.{get_elem?}
 use Rattle.layout.specs.References.{references_of}

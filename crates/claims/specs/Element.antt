@@ -1,7 +1,7 @@
 -- What is due in an open container: the element of its references at its position, or its end at their number.
-use Rattle.std.specs.Prelude.{List, [], ◌∷◌, ◌⊎◌, refl, ℕ, zero, suc, ◌≤◌, ◌<◌, length}
-use Rattle.std.proofs.Common.{inl, inr, ◌∙◌}
 use Rattle.std.proofs.Math.Option.{Option, none, some}
+use Rattle.std.specs.Prelude.{List, [], ◌∷◌, ◌⊎◌, refl, ℕ, zero, suc, ◌≤◌, ◌<◌, length, None, Some}
+use Rattle.std.proofs.Common.{inl, inr, ◌∙◌}
 use Rattle.std.proofs.Math.Path.{◌≡◌, sym}
 use native.Mathlib.Omega.{arith}
 use Rattle.std.proofs.Math.ListN.{get_elem?, length-map}
@@ -13,7 +13,6 @@ use Rattle.layout.specs.ReferencesLaws.{element_at, same_length, Dues, due_none,
 use Rattle.layout.specs.declared.frame.Frame.{Frame}
 use Rattle.layout.specs.declared.layout.Due.{Due}
 use Rattle.layout.specs.declared.layout.Due.TheVariants.{Wrong, Close, Member}
-use Rattle.layout.specs.declared.layout.Entry.TheVariants.{Outside}
 use Rattle.layout.specs.declared.layout.Layout.{Layout}
 use Rattle.claims.specs.Due.{Pending, end, reference, due_close, due_member}
 use Rattle.claims.specs.Open.{Opened, opened_pending}
@@ -29,12 +28,12 @@ below (m ∷ ns) zero n e = omega arith
 below (m ∷ ns) (suc p) n e = omega (arith, below ns p n e)
 
 -- a reference that lies outside the file isn't due
-due_outside : (file : List ℕ) (l : Layout) (f : Frame) → get_elem? (entries_of file l f.object) f.position ≡ some Outside → due_of file l f ≡ Wrong
+due_outside : (file : List ℕ) (l : Layout) (f : Frame) → get_elem? (entries_of file l f.object) f.position ≡ some None → due_of file l f ≡ Wrong
 unfolding given
 due_outside file l f e = go (same_length (length_of (stands_in file l f).container) f.length)
   where
-    go : (length_of (stands_in file l f).container ≡ some f.length) ⊎ (length_of (stands_in file l f).container ≡ some f.length → ⊥) → due_of file l f ≡ Wrong
-    go (inl h) = due_entry file l f h ∙ element_at _ (entries_of file l f.object) f.position Outside e
+    go : (length_of (stands_in file l f).container ≡ Some f.length) ⊎ (length_of (stands_in file l f).container ≡ Some f.length → ⊥) → due_of file l f ≡ Wrong
+    go (inl h) = due_entry file l f h ∙ element_at _ (entries_of file l f.object) f.position None e
     go (inr h) = due_none file l f h
 
 -- the reference that is due, or, behind the last, the end of the container at an offset
@@ -70,12 +69,12 @@ module _ (file : List ℕ) (l : Layout) (f : Frame) where
     position_within = rw references_many t.within
 
     -- and each lies within the file
-    pub none_outside : (p : ℕ) → get_elem? (entries_of file l f.object) p ≡ some Outside → ⊥
+    pub none_outside : (p : ℕ) → get_elem? (entries_of file l f.object) p ≡ some None → ⊥
     unfolding references_of
     none_outside p e =
         let g : Frame = at_position f p in
         let m = length-map (entries_of file l f.object) number_in in
-        let h : p < refs_of t.shape f.length = omega (arith, below (entries_of file l f.object) p Outside e, m, references_many) in
+        let h : p < refs_of t.shape f.length = omega (arith, below (entries_of file l f.object) p None e, m, references_many) in
         let d = due_member file l g t.shape t.standing h in
         let q : Wrong ≡ Member d.0 = sym (due_outside file l g e) ∙ d.1 in
         let z : ◌≡◌ {A = ℕ} 0 1 = cc in

@@ -1,10 +1,9 @@
 -- The claims are about something. The references of an array and of a dictionary; P12, an array that holds itself, is opened, refused with 14 at place 8, and has ended.
-use Rattle.std.specs.Prelude.{List, [], ◌∷◌, ◌++◌, map, ◌≡◌, refl, ℕ, replicate}
+use Rattle.std.specs.Prelude.{List, [], ◌∷◌, ◌++◌, map, ◌≡◌, refl, ℕ, replicate, Some}
 use Rattle.number.specs.Be.{bytes_of}
 use Rattle.number.specs.declared.width.Width.TheVariants.{One}
 use Rattle.event.specs.Format.{magic}
 use Rattle.event.specs.declared.Event.TheVariants.{StartArray}
-use Rattle.event.specs.declared.Length.TheVariants.{Given}
 use Rattle.layout.specs.References.{references}
 use Rattle.reader.specs.Calls.{runs, answer_of}
 use Rattle.reader.specs.Computed.{computed}
@@ -14,7 +13,7 @@ use Rattle.reader.specs.Machine.{origin, event_at, ended, refused}
 unfoldable pub itself : List ℕ
 itself = magic ++ (0xA1 ∷ 0x00 ∷ 0x08 ∷ 0 ∷ 0 ∷ 0 ∷ 0 ∷ 0 ∷ 0 ∷ 1 ∷ 1 ∷ []) ++ bytes_of 8 1 ++ bytes_of 8 0 ++ bytes_of 8 10
 
-pub answers : (answer_of itself 0 ≡ event_at (StartArray (Given 1)) (origin 0 8)) × ((answer_of itself 1 ≡ refused 14 [] 8) × (answer_of itself 2 ≡ ended))
+pub answers : (answer_of itself 0 ≡ event_at (StartArray (Some 1)) (origin 0 8)) × ((answer_of itself 1 ≡ refused 14 [] 8) × (answer_of itself 2 ≡ ended))
 unfolding computed itself runs answer_of
 answers = (refl, (refl, refl))
 

@@ -1,8 +1,8 @@
 -- Where each event comes from: over any number of calls from a fresh reader on one file, the record that a call hands out holds an object's number
 -- and that number's entry of the offset table. The number is the root's for the first; for an end that of the container which was innermost; else the
 -- reference that was due in it. docs/FORMAT.md, R18.
-use Rattle.std.specs.Prelude.{Bool, true, false, cond, List, ◌≡◌, refl, ℕ, ◌<◌}
 use Rattle.std.proofs.Math.Option.{Option, some}
+use Rattle.std.specs.Prelude.{Bool, true, false, cond, List, ◌≡◌, refl, ℕ, ◌<◌, Some}
 use Rattle.std.proofs.Common.{arith}
 use Rattle.std.proofs.Math.ListN.{get_elem?}
 use Rattle.event.specs.declared.Event.{Event}
@@ -18,7 +18,6 @@ use Rattle.layout.specs.Looked.{scalar, Shape, array, dictionary, start_of}
 use Rattle.layout.specs.References.{references_of}
 use Rattle.layout.specs.Trailer.{lays, trailer_of}
 use Rattle.layout.specs.declared.layout.Due.TheVariants.{Member}
-use Rattle.layout.specs.declared.layout.Entry.TheVariants.{Of}
 use Rattle.layout.specs.declared.layout.Layout.{Layout}
 use Rattle.reader.specs.Calls.{runs, answer_of}
 use Rattle.reader.specs.Machine.{Said, event, ended, refused}
@@ -61,7 +60,7 @@ pub record Comes (file : List ℕ) (r : Reader) (q : Record) : Type 0 where
   pub says : trailer_of file ≡ lays layout root
   pub named : number_due file layout root r q.event ≡ some q.number
   pub numbered : q.number < layout.count
-  pub entry : entry_at file layout q.number ≡ Of q.offset
+  pub entry : entry_at file layout q.number ≡ Some q.offset
 
 -- no scalar that is looked up is an end, nor is a start
 plain_goes_on : (e : Event) → Plain e → is_end e ≡ false
@@ -144,5 +143,5 @@ module _ (file : List ℕ) where
   comes_from n q e = rw e at (traced (runs file n) (reached file n))
 
 -- with an open container each frame keeps its object's entry of the table
-pub offsets_kept : (file : List ℕ) (r : Reader) (o : Open file r) (i : ℕ) → i < r.depth → entry_at file o.layout (frame_at r.frames i).object ≡ Of (frame_at r.frames i).offset
+pub offsets_kept : (file : List ℕ) (r : Reader) (o : Open file r) (i : ℕ) → i < r.depth → entry_at file o.layout (frame_at r.frames i).object ≡ Some (frame_at r.frames i).offset
 offsets_kept file r o i h = (o.stack.opened i h).standing.entry

@@ -1,7 +1,7 @@
 -- Refusal 14 comes exactly when the next reference of the innermost container names an open one, and its place is that one's offset.
-use mathlib.Core.List.{List, []}
-use Rattle.std.specs.Prelude.{◌↔◌, ◌≡◌, ℕ, suc, ◌<◌}
 use Rattle.std.proofs.Math.Option.{some}
+use mathlib.Core.List.{List, []}
+use Rattle.std.specs.Prelude.{◌↔◌, ◌≡◌, ℕ, suc, ◌<◌, Some}
 use Rattle.std.proofs.Math.Path.{refl, sym, ap}
 use Rattle.std.proofs.Common.{◌∙◌, arith}
 use Rattle.std.proofs.Math.ListN.{get_elem?}
@@ -9,7 +9,6 @@ use Rattle.layout.specs.Layout.{entry_at, due_of, source_of}
 use Rattle.layout.specs.References.{references_of}
 use Rattle.layout.specs.Trailer.{lays, trailer_of}
 use Rattle.layout.specs.declared.layout.Due.TheVariants.{Member}
-use Rattle.layout.specs.declared.layout.Entry.TheVariants.{Of}
 use Rattle.layout.specs.declared.layout.Layout.{Layout}
 use Rattle.reader.specs.Calls.{runs, answer_of}
 use Rattle.reader.specs.Machine.{Step, refused, refuse, enter, arrive, follow}
@@ -32,7 +31,7 @@ pub record Recursive (file : List ℕ) (r : Reader) (place : ℕ) : Type 0 where
   pub depth : ℕ
   pub below : depth < r.depth
   pub named : get_elem? (references_of file layout (innermost r).object) (innermost r).position ≡ some (frame_at r.frames depth).object
-  pub stands : entry_at file layout (frame_at r.frames depth).object ≡ Of place
+  pub stands : entry_at file layout (frame_at r.frames depth).object ≡ Some place
 
 module _ (file : List ℕ) (r : Reader) (o : Open file r) where
   -- then looking that object up gives a container, since it is open, and the call is refused at its offset
@@ -44,7 +43,7 @@ module _ (file : List ℕ) (r : Reader) (o : Open file r) where
       let n = (frame_at r.frames c.depth).object in
       let t = o.stack.opened c.depth c.below in
       let d : due_of file o.layout (innermost r) ≡ Member n = due_element file o.layout (innermost r) (inner file r o) ∙ ap (element_due (innermost r).offset) (rw q at c.named) in
-      let e : Of (frame_at r.frames c.depth).offset ≡ Of place = sym t.standing.entry ∙ rw q at c.stands in
+      let e : Some (frame_at r.frames c.depth).offset ≡ Some place = sym t.standing.entry ∙ rw q at c.stands in
       let p : (frame_at r.frames c.depth).offset ≡ place = cc in
       let m = member_in r.frames r.depth n c.depth c.below (omega arith) refl in
       next_follow file r o ∙ rw (d, t.look, m, p)

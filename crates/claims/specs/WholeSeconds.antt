@@ -1,7 +1,6 @@
 -- Every whole second of the range has bits, and on these bits the calendar's two functions undo each other.
-use Rattle.std.specs.Prelude.{Bool, true, false, ◌≡◌, refl, ℕ, suc, ◌+◌, ◌-◌, ◌*◌, ◌/◌, ◌%◌, ◌^◌, ◌≤◌, ◌<◌, ltb, ℤ, pos, negsuc, Float}
+use Rattle.std.specs.Prelude.{Bool, true, false, ◌≡◌, refl, ℕ, suc, ◌+◌, ◌-◌, ◌*◌, ◌/◌, ◌%◌, ◌^◌, ◌≤◌, ◌<◌, ltb, ℤ, pos, negsuc, Float, Some}
 use Rattle.std.proofs.lemmas.Bool.{false≢true}
-use Rattle.std.proofs.Math.Option.{some}
 use Rattle.std.proofs.Common.{ap, ◌∙◌, arith, eq-eqb, lt-ltb, ltb-true, lit<}
 use Rattle.std.specs.Float.{nan, inf, fin, binary64}
 use Rattle.std.specs.Float.Ieee.{up, down, to_bits, of_int, round}
@@ -23,11 +22,11 @@ use Rattle.calendar.specs.declared.Time.{Time}
 unfoldable pub bits_for : ℤ → ℕ
 bits_for z = to_bits binary64 (of_int binary64 z)
 
-floor_value : (x : Float) (s : Bool) (a : ℕ) → HasValue x s a 1 → floor_of x ≡ some (floor_fraction s a 1)
+floor_value : (x : Float) (s : Bool) (a : ℕ) → HasValue x s a 1 → floor_of x ≡ Some (floor_fraction s a 1)
 unfolding floor_of
 floor_value nan s a v = absurd v
 floor_value (inf t) s a v = absurd v
-floor_value (fin t m e) s a v = rw v.0 (ap some (same_fraction s (m * up e) (down e) a 1 (down_pos e) (lit< tt) v.1))
+floor_value (fin t m e) s a v = rw v.0 (ap Some (same_fraction s (m * up e) (down e) a 1 (down_pos e) (lit< tt) v.1))
 
 whole_plus : (n : ℕ) → floor_fraction false n 1 ≡ pos n
 unfolding floor_fraction
@@ -57,17 +56,17 @@ minus_bound k h = go (ltb k 63_113_904_000) refl
     go true e = ltb-true _ _ e
     go false e = absurd (false≢true (rw (e, since_whole) at h))
 
-floor_int : (z : ℤ) → lies (since_whole z) ≡ true → floor_of (of_int binary64 z) ≡ some z
+floor_int : (z : ℤ) → lies (since_whole z) ≡ true → floor_of (of_int binary64 z) ≡ Some z
 unfolding of_int
 floor_int (pos m) h =
     let f : m ≤ 2 ^ 53 = omega (arith, plus_bound m h) in
-    floor_value (round binary64 false m 1) false m (round_whole binary64 false m f) ∙ ap some (whole_plus m)
+    floor_value (round binary64 false m 1) false m (round_whole binary64 false m f) ∙ ap Some (whole_plus m)
 floor_int (negsuc k) h =
     let f : suc k ≤ 2 ^ 53 = omega (arith, minus_bound k h) in
-    floor_value (round binary64 true (suc k) 1) true (suc k) (round_whole binary64 true (suc k) f) ∙ ap some (whole_minus k)
+    floor_value (round binary64 true (suc k) 1) true (suc k) (round_whole binary64 true (suc k) f) ∙ ap Some (whole_minus k)
 
 -- the floor of a whole second's bits is that second
-pub floor_whole : (z : ℤ) → lies (since_whole z) ≡ true → floor_of_bits (bits_for z) ≡ some z
+pub floor_whole : (z : ℤ) → lies (since_whole z) ≡ true → floor_of_bits (bits_for z) ≡ Some z
 unfolding floor_of_bits bits_for
 floor_whole z h = rw (of_bits-to_bits binary64 (of_int binary64 z) (of_int-fits binary64 z)) (floor_int z h)
 

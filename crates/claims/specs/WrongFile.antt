@@ -1,20 +1,17 @@
 -- Refusal 17, exactly: what rule R21 of docs/FORMAT.md lists, clause by clause in its order.
-use Rattle.std.specs.Prelude.{false, List, [], ◌⊎◌, ◌≡◌, ℕ, ◌≤◌, ◌<◌, length}
 use Rattle.std.proofs.Math.Option.{some}
+use Rattle.std.specs.Prelude.{false, List, [], ◌⊎◌, ◌≡◌, ℕ, ◌≤◌, ◌<◌, length, None, Some}
 use Rattle.std.proofs.Math.ListN.{get_elem?}
 use Rattle.number.specs.Width.{width_of}
-use Rattle.number.specs.declared.width.Size.TheVariants.{Allowed, NotAllowed}
 use Rattle.event.specs.Meaning.{meaning_of}
 use Rattle.event.specs.declared.Event.{Event}
 use Rattle.event.specs.declared.Event.TheVariants.{StartArray, StartDictionary, EndCollection, Boolean, Data, Date, Integer, Real, Nan, String, Uid}
-use Rattle.event.specs.declared.Length.TheVariants.{Given}
 use Rattle.object.specs.Object.{Found, object_at}
 use Rattle.object.specs.Object as found
 use Rattle.layout.specs.Layout.{entry_at, stands_at}
 use Rattle.layout.specs.References.{length_of, entries_of}
 use Rattle.layout.specs.Trailer.{lays, trailer_of}
 use Rattle.layout.specs.declared.frame.Frame.{Frame}
-use Rattle.layout.specs.declared.layout.Entry.TheVariants.{Of, Outside}
 use Rattle.layout.specs.declared.layout.Layout.{Layout}
 use Rattle.reader.specs.State.{max_open, max_length, innermost}
 use Rattle.reader.specs.declared.answer.Record.{Record}
@@ -23,22 +20,22 @@ use Rattle.reader.specs.declared.state.Reader.{Reader}
 -- of the innermost open container, in a file of this layout
 pub data WrongFrame (file : List ℕ) (l : Layout) (f : Frame) : Type 0 where
   -- "the innermost open object isn't a container of that length here"
-  other_object : (length_of (stands_at file l f.object).container ≡ some f.length → ⊥) → WrongFrame file l f
+  other_object : (length_of (stands_at file l f.object).container ≡ Some f.length → ⊥) → WrongFrame file l f
   -- "or its position is above its number of references"
   too_far : length (entries_of file l f.object) < f.position → WrongFrame file l f
   -- "a reference or table entry to be read lies outside the file": the reference at the position,
-  reference : get_elem? (entries_of file l f.object) f.position ≡ some Outside → WrongFrame file l f
+  reference : get_elem? (entries_of file l f.object) f.position ≡ some None → WrongFrame file l f
   -- the container's own entry,
-  own_entry : f.object < l.count → entry_at file l f.object ≡ Outside → WrongFrame file l f
+  own_entry : f.object < l.count → entry_at file l f.object ≡ None → WrongFrame file l f
   -- which isn't the offset that was kept,
-  other_offset : (offset : ℕ) → entry_at file l f.object ≡ Of offset → (offset ≡ f.offset → ⊥) → WrongFrame file l f
+  other_offset : (offset : ℕ) → entry_at file l f.object ≡ Some offset → (offset ≡ f.offset → ⊥) → WrongFrame file l f
   -- or the entry of the object that the reference names
-  named_entry : (n : ℕ) → get_elem? (entries_of file l f.object) f.position ≡ some (Of n) → n < l.count → entry_at file l n ≡ Outside → WrongFrame file l f
+  named_entry : (n : ℕ) → get_elem? (entries_of file l f.object) f.position ≡ some (Some n) → n < l.count → entry_at file l n ≡ None → WrongFrame file l f
 
 -- the sizes that a state keeps are allowed ones, and with its count and table they are this layout
 pub record Keeps (r : Reader) (l : Layout) : Type 0 where
-  pub offsets : width_of r.offsets ≡ Allowed l.offsets
-  pub refs : width_of r.refs ≡ Allowed l.refs
+  pub offsets : width_of r.offsets ≡ Some l.offsets
+  pub refs : width_of r.refs ≡ Some l.refs
   pub count : r.count ≡ l.count
   pub table : r.table ≡ l.table
 
@@ -48,8 +45,8 @@ pub data WrongState (file : List ℕ) (r : Reader) : Type 0 where
   -- it claims more open containers than there may be
   too_many : max_open < r.depth → WrongState file r
   -- "its sizes aren't allowed ones"
-  offset_size : width_of r.offsets ≡ NotAllowed → WrongState file r
-  ref_size : width_of r.refs ≡ NotAllowed → WrongState file r
+  offset_size : width_of r.offsets ≡ None → WrongState file r
+  ref_size : width_of r.refs ≡ None → WrongState file r
   -- and what holds of the innermost open container
   frame : (l : Layout) → Keeps r l → WrongFrame file l (innermost r) → WrongState file r
 
@@ -66,8 +63,8 @@ ScalarThere e x = (y : Event) × (x ≡ found.scalar y) × (meaning_of y [] ≡ 
 
 -- what reading finds where it gives a record of an event
 abbrev pub Gives : Event → Found → Type 0
-Gives (StartArray n) x = (k : ℕ) × (x ≡ found.array k) × (n ≡ Given k)
-Gives (StartDictionary n) x = (k : ℕ) × (x ≡ found.dictionary k) × (n ≡ Given k)
+Gives (StartArray n) x = (k : ℕ) × (x ≡ found.array k) × (n ≡ Some k)
+Gives (StartDictionary n) x = (k : ℕ) × (x ≡ found.dictionary k) × (n ≡ Some k)
 Gives EndCollection x = (k : ℕ) × ((x ≡ found.array k) ⊎ (x ≡ found.dictionary k))
 Gives (Boolean b) x = ScalarThere (Boolean b) x
 Gives Data x = (start : ℕ) × (n : ℕ) × (x ≡ found.bytes start n)
@@ -85,7 +82,7 @@ pub record GivesRecord (file : List ℕ) (r : Record) : Type 0 where
   pub root : ℕ
   pub says : trailer_of file ≡ lays layout root
   pub numbered : r.number < layout.count
-  pub entry : entry_at file layout r.number ≡ Of r.offset
+  pub entry : entry_at file layout r.number ≡ Some r.offset
   pub gives : Gives r.event (object_at file layout.refs r.offset)
 
 -- 1 comes before 17

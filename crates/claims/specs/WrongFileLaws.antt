@@ -1,8 +1,9 @@
 -- A call answers 17 exactly when `WrongCall` says so, whatever the file and the state.
-use Rattle.std.specs.Prelude.{Bool, List, [], ◌∷◌, ◌⊎◌, ◌↔◌, ℕ, zero, suc, ◌≤◌, ◌<◌, length}
+use Rattle.std.proofs.Math.Option.{none, some}
+use Rattle.number.specs.declared.width.Width.{Width}
+use Rattle.std.specs.Prelude.{Bool, List, [], ◌∷◌, ◌⊎◌, ◌↔◌, ℕ, zero, suc, ◌≤◌, ◌<◌, length, None, Option, Some}
 use Rattle.std.proofs.Math.Bool.{true, false}
 use Rattle.std.proofs.Common.{inl, inr, ap, ◌∙◌}
-use Rattle.std.proofs.Math.Option.{none, some}
 use Rattle.std.proofs.Math.Path.{◌≡◌, refl, sym}
 use native.Mathlib.Omega.{arith}
 use borrow.Author.Tests.{lt-ltb, ne_eqb, eqb-true, eqb-false, ltb-true, ltb-false}
@@ -10,8 +11,6 @@ use Rattle.std.proofs.Math.Dec.{ltb, leb, eqb}
 use Rattle.std.proofs.Math.ListN.{get_elem?}
 use Rattle.number.specs.Width.{width_of}
 use Rattle.number.specs.Among.{among_not}
-use Rattle.number.specs.declared.width.Size.{Size}
-use Rattle.number.specs.declared.width.Size.TheVariants.{Allowed, NotAllowed}
 use Rattle.layout.specs.Refusals.{file_refusals, file_refusal, keeps_refusal, ends_refusal, not_file_17}
 use Rattle.layout.specs.Layout.{entry_at, given, due_of, stands_from, stands_at, kept_from, stands_in, look_from, look_of, source_of}
 use Rattle.layout.specs.LookLaws.{LookedRight, look_right, entry_there}
@@ -21,8 +20,6 @@ use Rattle.layout.specs.ReferencesLaws.{element_at, element_end, element_past, s
 use Rattle.layout.specs.Trailer.{Trailer, keeps, ends, lays, trailer_of, trailer_in}
 use Rattle.layout.specs.TrailerLaws.{Tells, tells}
 use Rattle.layout.specs.declared.frame.Frame.{Frame}
-use Rattle.layout.specs.declared.layout.Entry.{Entry}
-use Rattle.layout.specs.declared.layout.Entry.TheVariants.{Of, Outside}
 use Rattle.layout.specs.declared.layout.Layout.{Layout}
 use Rattle.reader.specs.Machine.{Said, event, ended, refused, Step, wrong_file, enter, arrive, follow}
 use Rattle.reader.specs.Next.{laid_out, begin, with_refs, go_on, next_of}
@@ -41,7 +38,7 @@ Says17 (refused number values place) = number ≡ 17
 says : (a : Said) (values : List ℕ) (place : ℕ) → a ≡ refused 17 values place → Says17 a
 says a values place e = rw e refl
 
-element : (es : List Entry) (p : ℕ) → p < length es → (e : Entry) × (get_elem? es p ≡ some e)
+element : (es : List (Option ℕ)) (p : ℕ) → p < length es → (e : Option ℕ) × (get_elem? es p ≡ some e)
 element [] p h = absurd (omega arith)
 element (e ∷ es) zero h = (e, refl)
 element (e ∷ es) (suc p) h = element es p (omega arith)
@@ -57,7 +54,7 @@ module _ (file : List ℕ) (l : Layout) (r : Reader) (n : ℕ) where
       go false p true q = let z : ◌≡◌ {A = ℕ} 15 17 = rw (p, q) at h in omega arith
       go false p false q = rw (p, q) at h
 
-  arrive_only : (x : Looked) → LookedRight file l n x → Says17 (arrive r n x).answer → (n < l.count) × (entry_at file l n ≡ Outside)
+  arrive_only : (x : Looked) → LookedRight file l n x → Says17 (arrive r n x).answer → (n < l.count) × (entry_at file l n ≡ None)
   unfolding arrive
   arrive_only (barred number values) k h = absurd (among_not file_refusals number 17 (file_refusal number k) not_file_17 h)
   arrive_only missing k h = k
@@ -69,7 +66,7 @@ module _ (file : List ℕ) (l : Layout) (r : Reader) where
   abbrev f : Frame
   f = innermost r
 
-  abbrev es : List Entry
+  abbrev es : List (Option ℕ)
   es = entries_of file l f.object
 
   abbrev at : ℕ
@@ -77,13 +74,13 @@ module _ (file : List ℕ) (l : Layout) (r : Reader) where
 
   -- a container of the frame's length stands where it was kept
   abbrev Here : Type 0
-  Here = length_of (stands_in file l f).container ≡ some f.length
+  Here = length_of (stands_in file l f).container ≡ Some f.length
 
-  none_here : {P : Type 0} → none ≡ some f.length → P
+  none_here : {P : Type 0} → None ≡ Some f.length → P
   none_here q = let z : ◌≡◌ {A = ℕ} 0 1 = cc in absurd (omega arith)
 
   -- so its entry is the offset that was kept
-  here_kept : Here → (offset : ℕ) → entry_at file l f.object ≡ Of offset → (offset ≡ f.offset → ⊥) → ⊥
+  here_kept : Here → (offset : ℕ) → entry_at file l f.object ≡ Some offset → (offset ≡ f.offset → ⊥) → ⊥
   unfolding stands_in kept_from length_of
   here_kept e offset h d = go (ltb f.object l.count) refl
     where
@@ -96,14 +93,14 @@ module _ (file : List ℕ) (l : Layout) (r : Reader) where
   unfolding stands_in kept_from stands_at stands_from length_of
   not_here h = go (ltb f.object l.count) refl (entry_at file l f.object) refl
     where
-      kept : f.object < l.count → (offset : ℕ) → entry_at file l f.object ≡ Of offset → (b : Bool) → eqb offset f.offset ≡ b → WrongFrame file l f
+      kept : f.object < l.count → (offset : ℕ) → entry_at file l f.object ≡ Some offset → (b : Bool) → eqb offset f.offset ≡ b → WrongFrame file l f
       kept c offset e true q = other_object (λ g. h (rw (lt-ltb _ _ c, e, q) (rw (lt-ltb _ _ c, e) at g)))
       kept c offset e false q = other_offset offset e (eqb-false _ _ q)
 
-      go : (b : Bool) → ltb f.object l.count ≡ b → (x : Entry) → entry_at file l f.object ≡ x → WrongFrame file l f
+      go : (b : Bool) → ltb f.object l.count ≡ b → (x : Option ℕ) → entry_at file l f.object ≡ x → WrongFrame file l f
       go false q x e = other_object (λ g. none_here (rw q at g))
-      go true q Outside e = own_entry (ltb-true _ _ q) e
-      go true q (Of offset) e = kept (ltb-true _ _ q) offset e (eqb offset f.offset) refl
+      go true q None e = own_entry (ltb-true _ _ q) e
+      go true q (Some offset) e = kept (ltb-true _ _ q) offset e (eqb offset f.offset) refl
 
   frame_then : WrongFrame file l f → follow (source_of file l) r (due_of file l f) ≡ wrong_file r
   unfolding follow source_of given arrive look_of look_from stands_in kept_from length_of
@@ -113,20 +110,20 @@ module _ (file : List ℕ) (l : Layout) (r : Reader) where
       go (inr h) w = rw (due_none file l f h)
       go (inl e) (other_object h) = absurd (h (rw (← kept_stands file l f e) e))
       go (inl e) (too_far h) = rw (due_entry file l f e, element_past at es f.position h)
-      go (inl e) (reference h) = rw (due_entry file l f e, element_at at es f.position Outside h)
+      go (inl e) (reference h) = rw (due_entry file l f e, element_at at es f.position None h)
       go (inl e) (own_entry c h) =
           none_here (rw (lt-ltb _ _ c, h) at e)
       go (inl e) (other_offset offset h d) = absurd (here_kept e offset h d)
-      go (inl e) (named_entry n h c q) = rw (due_entry file l f e, element_at at es f.position (Of n) h, lt-ltb _ _ c, q)
+      go (inl e) (named_entry n h c q) = rw (due_entry file l f e, element_at at es f.position (Some n) h, lt-ltb _ _ c, q)
 
   frame_only : Says17 (follow (source_of file l) r (due_of file l f)).answer → WrongFrame file l f
   unfolding follow source_of given
   frame_only s = go (same_length (length_of (stands_in file l f).container) f.length)
     where
-      entry : Here → (e : Entry) → get_elem? es f.position ≡ some e → WrongFrame file l f
-      entry h Outside g = reference g
-      entry h (Of n) g =
-          let t : Says17 (arrive r n (look_of file l n)).answer = rw (due_entry file l f h, element_at at es f.position (Of n) g) at s in
+      entry : Here → (e : Option ℕ) → get_elem? es f.position ≡ some e → WrongFrame file l f
+      entry h None g = reference g
+      entry h (Some n) g =
+          let t : Says17 (arrive r n (look_of file l n)).answer = rw (due_entry file l f h, element_at at es f.position (Some n) g) at s in
           let k = arrive_only file l r n (look_of file l n) (look_right file l n) t in
           named_entry n g k.0 k.1
 
@@ -145,10 +142,10 @@ module _ (file : List ℕ) (l : Layout) (r : Reader) where
 module _ (file : List ℕ) (r : Reader) where
   -- a state with something open
   module _ (old : r.fresh ≡ false) (some_open : 0 < r.depth) (short : length file ≤ max_length) where
-    no_refs : (s : Size) → go_on file r s NotAllowed ≡ wrong_file r
+    no_refs : (s : Option Width) → go_on file r s None ≡ wrong_file r
     unfolding go_on with_refs
-    no_refs (Allowed w) = refl
-    no_refs NotAllowed = refl
+    no_refs (Some w) = refl
+    no_refs None = refl
 
     kept : r.length ≡ length file → r.depth ≤ max_open → WrongState file r → next_of file r ≡ wrong_file r
     unfolding go_on
@@ -170,10 +167,10 @@ module _ (file : List ℕ) (r : Reader) where
     open_only : Says17 (next_of file r).answer → WrongState file r
     open_only s = go (same_or_not r.length (length file)) (ltb max_open r.depth) refl
       where
-        sized : r.length ≡ length file → r.depth ≤ max_open → (a : Size) → width_of r.offsets ≡ a → (b : Size) → width_of r.refs ≡ b → WrongState file r
-        sized e h NotAllowed p b q = offset_size p
-        sized e h (Allowed o) p NotAllowed q = ref_size q
-        sized e h (Allowed o) p (Allowed w) q =
+        sized : r.length ≡ length file → r.depth ≤ max_open → (a : Option Width) → width_of r.offsets ≡ a → (b : Option Width) → width_of r.refs ≡ b → WrongState file r
+        sized e h None p b q = offset_size p
+        sized e h (Some o) p None q = ref_size q
+        sized e h (Some o) p (Some w) q =
             let l : Layout = record { offsets = o; refs = w; count = r.count; table = r.table } in
             let d = next_due file r old (λ z. omega arith) short e h l p q refl refl in
             frame l (record { offsets = p; refs = q; count = refl; table = refl }) (frame_only file l r (rw d at s))
@@ -190,7 +187,7 @@ module _ (file : List ℕ) (r : Reader) where
   begin_never (ends number values place) k h = among_not file_refusals number 17 (ends_refusal number k) not_file_17 h
   begin_never (lays l root) k h =
       let t = arrive_only file l (laid_out file l) root (look_of file l root) (look_right file l root) h in
-      let e : Outside ≡ Of _ = sym t.1 ∙ entry_there file l k.laid root t.0 in
+      let e : None ≡ Some _ = sym t.1 ∙ entry_there file l k.laid root t.0 in
       let z : ◌≡◌ {A = ℕ} 0 1 = cc in
       omega arith
 

@@ -1,9 +1,8 @@
 -- The text request answers 17 exactly when `WrongRequest` says so, whatever the file, the scratch and the record.
-use Rattle.std.specs.Prelude.{Bool, ◌⊎◌, ◌↔◌, ℕ, ◌<◌, ltb, length}
+use Rattle.std.specs.Prelude.{Bool, ◌⊎◌, ◌↔◌, ℕ, ◌<◌, ltb, length, None, Option, Some}
 use Rattle.std.proofs.Math.Bool.{true, false}
 use mathlib.Core.List.{List, []}
 use Rattle.std.proofs.Math.Logic.{inl, inr}
-use Rattle.std.proofs.Math.Option.{some}
 use Rattle.std.proofs.Math.Path.{◌≡◌, refl, ap}
 use Rattle.std.proofs.Common.{sym, ◌∙◌}
 use native.Mathlib.Omega.{arith}
@@ -11,13 +10,11 @@ use borrow.Author.Tests.{lt-ltb, le-ltb, eq-eqb, ltb-true, ltb-false, eqb-true}
 use Rattle.std.proofs.Math.Dec.{leb, eqb}
 use Rattle.utf.specs.Unicode.{to_utf8}
 use Rattle.event.specs.Meaning as meaning
-use Rattle.event.specs.Meaning.{meaning_of, given_of}
+use Rattle.event.specs.Meaning.{meaning_of}
 use Rattle.event.specs.Same.{same}
 use Rattle.event.specs.SameLaws.{same_means, means_same}
 use Rattle.event.specs.declared.Event.{Event}
 use Rattle.event.specs.declared.Event.TheVariants.{StartArray, StartDictionary, EndCollection, Boolean, Data, Date, Integer, Real, Nan, String, Uid}
-use Rattle.event.specs.declared.Length.{Length}
-use Rattle.event.specs.declared.Length.TheVariants.{Given, NotGiven}
 use Rattle.number.specs.Part.{part}
 use Rattle.object.specs.Object.{Found, object_at}
 use Rattle.object.specs.Object as found
@@ -25,8 +22,6 @@ use Rattle.layout.specs.Bytes.{Asked, in_file, in_utf16, no_bytes, denied, data_
 use Rattle.layout.specs.Layout.{entry_at}
 use Rattle.layout.specs.Listed.{is_entry, is_listed}
 use Rattle.layout.specs.Trailer.{Trailer, keeps, ends, lays, trailer_of}
-use Rattle.layout.specs.declared.layout.Entry.{Entry}
-use Rattle.layout.specs.declared.layout.Entry.TheVariants.{Of, Outside}
 use Rattle.layout.specs.declared.layout.Layout.{Layout}
 use Rattle.reader.specs.Request.{asked_under, asked_by, asked_of, TextSaid, long, refusing, length_said}
 use Rattle.reader.specs.State.{max_length}
@@ -74,61 +69,56 @@ scalar_or_denied e (found.array n) = inr refl
 scalar_or_denied e (found.dictionary n) = inr refl
 
 -- a start, whose length is given
-given_length : (n : Length) (k : ℕ) → given_of n ≡ some k → n ≡ Given k
-unfolding given_of
-given_length (Given m) k e = let q : m ≡ k = cc in ap Given q
-given_length NotGiven k e = let z : ◌≡◌ {A = ℕ} 0 1 = cc in absurd (omega arith)
-
-array_or_denied : (n : Length) (x : Found) → ((k : ℕ) × (x ≡ found.array k) × (n ≡ Given k)) ⊎ (start_asked (StartArray n) x ≡ denied 17 [])
-unfolding start_asked meaning_of given_of
+array_or_denied : (n : Option ℕ) (x : Found) → ((k : ℕ) × (x ≡ found.array k) × (n ≡ Some k)) ⊎ (start_asked (StartArray n) x ≡ denied 17 [])
+unfolding start_asked meaning_of
 array_or_denied n found.outside = inr refl
 array_or_denied n (found.refused number values) = inr refl
 array_or_denied n (found.scalar e) = inr refl
 array_or_denied n (found.bytes start k) = inr refl
 array_or_denied n (found.utf8 start k) = inr refl
 array_or_denied n (found.utf16 start k) = inr refl
-array_or_denied n (found.array k) = go (same (StartArray n) (StartArray (Given k))) refl
+array_or_denied n (found.array k) = go (same (StartArray n) (StartArray (Some k))) refl
   where
-    go : (b : Bool) → same (StartArray n) (StartArray (Given k)) ≡ b
-        → ((m : ℕ) × (found.array k ≡ found.array m) × (n ≡ Given m)) ⊎ (start_asked (StartArray n) (found.array k) ≡ denied 17 [])
+    go : (b : Bool) → same (StartArray n) (StartArray (Some k)) ≡ b
+        → ((m : ℕ) × (found.array k ≡ found.array m) × (n ≡ Some m)) ⊎ (start_asked (StartArray n) (found.array k) ≡ denied 17 [])
     go true q =
-        let m : meaning.array (given_of n) ≡ meaning.array (some k) = same_means (StartArray n) (StartArray (Given k)) q in
-        inl (k, refl, given_length n k cc)
+        let m : meaning.array n ≡ meaning.array (Some k) = same_means (StartArray n) (StartArray (Some k)) q in
+        inl (k, refl, cc)
     go false q = inr (rw q)
-array_or_denied n (found.dictionary k) = go (same (StartArray n) (StartDictionary (Given k))) refl
+array_or_denied n (found.dictionary k) = go (same (StartArray n) (StartDictionary (Some k))) refl
   where
-    go : (b : Bool) → same (StartArray n) (StartDictionary (Given k)) ≡ b
-        → ((m : ℕ) × (found.dictionary k ≡ found.array m) × (n ≡ Given m)) ⊎ (start_asked (StartArray n) (found.dictionary k) ≡ denied 17 [])
+    go : (b : Bool) → same (StartArray n) (StartDictionary (Some k)) ≡ b
+        → ((m : ℕ) × (found.dictionary k ≡ found.array m) × (n ≡ Some m)) ⊎ (start_asked (StartArray n) (found.dictionary k) ≡ denied 17 [])
     go true q =
-        let m : meaning.array (given_of n) ≡ meaning.dictionary (some k) = same_means (StartArray n) (StartDictionary (Given k)) q in
+        let m : meaning.array n ≡ meaning.dictionary (Some k) = same_means (StartArray n) (StartDictionary (Some k)) q in
         let z : ◌≡◌ {A = ℕ} 0 1 = cc in
         absurd (omega arith)
     go false q = inr (rw q)
 
-dictionary_or_denied : (n : Length) (x : Found) → ((k : ℕ) × (x ≡ found.dictionary k) × (n ≡ Given k)) ⊎ (start_asked (StartDictionary n) x ≡ denied 17 [])
-unfolding start_asked meaning_of given_of
+dictionary_or_denied : (n : Option ℕ) (x : Found) → ((k : ℕ) × (x ≡ found.dictionary k) × (n ≡ Some k)) ⊎ (start_asked (StartDictionary n) x ≡ denied 17 [])
+unfolding start_asked meaning_of
 dictionary_or_denied n found.outside = inr refl
 dictionary_or_denied n (found.refused number values) = inr refl
 dictionary_or_denied n (found.scalar e) = inr refl
 dictionary_or_denied n (found.bytes start k) = inr refl
 dictionary_or_denied n (found.utf8 start k) = inr refl
 dictionary_or_denied n (found.utf16 start k) = inr refl
-dictionary_or_denied n (found.array k) = go (same (StartDictionary n) (StartArray (Given k))) refl
+dictionary_or_denied n (found.array k) = go (same (StartDictionary n) (StartArray (Some k))) refl
   where
-    go : (b : Bool) → same (StartDictionary n) (StartArray (Given k)) ≡ b
-        → ((m : ℕ) × (found.array k ≡ found.dictionary m) × (n ≡ Given m)) ⊎ (start_asked (StartDictionary n) (found.array k) ≡ denied 17 [])
+    go : (b : Bool) → same (StartDictionary n) (StartArray (Some k)) ≡ b
+        → ((m : ℕ) × (found.array k ≡ found.dictionary m) × (n ≡ Some m)) ⊎ (start_asked (StartDictionary n) (found.array k) ≡ denied 17 [])
     go true q =
-        let m : meaning.dictionary (given_of n) ≡ meaning.array (some k) = same_means (StartDictionary n) (StartArray (Given k)) q in
+        let m : meaning.dictionary n ≡ meaning.array (Some k) = same_means (StartDictionary n) (StartArray (Some k)) q in
         let z : ◌≡◌ {A = ℕ} 0 1 = cc in
         absurd (omega arith)
     go false q = inr (rw q)
-dictionary_or_denied n (found.dictionary k) = go (same (StartDictionary n) (StartDictionary (Given k))) refl
+dictionary_or_denied n (found.dictionary k) = go (same (StartDictionary n) (StartDictionary (Some k))) refl
   where
-    go : (b : Bool) → same (StartDictionary n) (StartDictionary (Given k)) ≡ b
-        → ((m : ℕ) × (found.dictionary k ≡ found.dictionary m) × (n ≡ Given m)) ⊎ (start_asked (StartDictionary n) (found.dictionary k) ≡ denied 17 [])
+    go : (b : Bool) → same (StartDictionary n) (StartDictionary (Some k)) ≡ b
+        → ((m : ℕ) × (found.dictionary k ≡ found.dictionary m) × (n ≡ Some m)) ⊎ (start_asked (StartDictionary n) (found.dictionary k) ≡ denied 17 [])
     go true q =
-        let m : meaning.dictionary (given_of n) ≡ meaning.dictionary (some k) = same_means (StartDictionary n) (StartDictionary (Given k)) q in
-        inl (k, refl, given_length n k cc)
+        let m : meaning.dictionary n ≡ meaning.dictionary (Some k) = same_means (StartDictionary n) (StartDictionary (Some k)) q in
+        inl (k, refl, cc)
     go false q = inr (rw q)
 
 -- an end
@@ -172,8 +162,8 @@ scalar_kept e x (y, h, m) = rw (h, means_same e y (sym m)) tt
 -- and where it gives the record, it isn't
 gives_kept : (e : Event) (x : Found) → Gives e x → Kept (found_asked e x)
 unfolding found_asked data_asked text_asked start_asked end_asked
-gives_kept (StartArray n) x (k, h, q) = rw (h, q, means_same (StartArray (Given k)) (StartArray (Given k)) refl) tt
-gives_kept (StartDictionary n) x (k, h, q) = rw (h, q, means_same (StartDictionary (Given k)) (StartDictionary (Given k)) refl) tt
+gives_kept (StartArray n) x (k, h, q) = rw (h, q, means_same (StartArray (Some k)) (StartArray (Some k)) refl) tt
+gives_kept (StartDictionary n) x (k, h, q) = rw (h, q, means_same (StartDictionary (Some k)) (StartDictionary (Some k)) refl) tt
 gives_kept EndCollection x (k, inl h) = rw h tt
 gives_kept EndCollection x (k, inr h) = rw h tt
 gives_kept (Boolean b) x g = scalar_kept (Boolean b) x g
@@ -192,18 +182,18 @@ module _ (file : List ℕ) (r : Record) where
   unfolding asked_under is_listed is_entry
   under_or_denied l root says = go (ltb r.number l.count) refl (entry_at file l r.number) refl
     where
-      read : r.number < l.count → (entry : ℕ) → entry_at file l r.number ≡ Of entry → (b : Bool) → eqb entry r.offset ≡ b → GivesRecord file r ⊎ (asked_under file r l ≡ denied 17 [])
+      read : r.number < l.count → (entry : ℕ) → entry_at file l r.number ≡ Some entry → (b : Bool) → eqb entry r.offset ≡ b → GivesRecord file r ⊎ (asked_under file r l ≡ denied 17 [])
       read c entry e false q = inr (rw (lt-ltb _ _ c, e, q))
       read c entry e true q = given (gives_or_denied r.event (object_at file l.refs r.offset))
         where
           given : Gives r.event (object_at file l.refs r.offset) ⊎ (found_asked r.event (object_at file l.refs r.offset) ≡ denied 17 []) → GivesRecord file r ⊎ (asked_under file r l ≡ denied 17 [])
-          given (inl g) = inl (record { layout = l; root = root; says = says; numbered = c; entry = e ∙ ap Of (eqb-true _ _ q); gives = g })
+          given (inl g) = inl (record { layout = l; root = root; says = says; numbered = c; entry = e ∙ ap Some (eqb-true _ _ q); gives = g })
           given (inr d) = inr (rw (lt-ltb _ _ c, e, q) d)
 
-      go : (b : Bool) → ltb r.number l.count ≡ b → (x : Entry) → entry_at file l r.number ≡ x → GivesRecord file r ⊎ (asked_under file r l ≡ denied 17 [])
+      go : (b : Bool) → ltb r.number l.count ≡ b → (x : Option ℕ) → entry_at file l r.number ≡ x → GivesRecord file r ⊎ (asked_under file r l ≡ denied 17 [])
       go false q x e = inr (rw q)
-      go true q Outside e = inr (rw (q, e))
-      go true q (Of entry) e = read (ltb-true _ _ q) entry e (eqb entry r.offset) refl
+      go true q None e = inr (rw (q, e))
+      go true q (Some entry) e = read (ltb-true _ _ q) entry e (eqb entry r.offset) refl
 
   record_or_denied : (t : Trailer) → trailer_of file ≡ t → GivesRecord file r ⊎ (asked_by file r t ≡ denied 17 [])
   unfolding asked_by

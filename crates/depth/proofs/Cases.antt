@@ -1,6 +1,5 @@
 -- THE CASE "depth" of docs/FORMAT.md, P: 512 and 513 arrays, each inside the last, written and read; and how files of them look.
-use Rattle.std.specs.Prelude.{[], ◌∷◌, ◌++◌, ◌≡◌, refl, take, drop}
-use Rattle.std.proofs.Math.Option.{some}
+use Rattle.std.specs.Prelude.{[], ◌∷◌, ◌++◌, ◌≡◌, refl, take, drop, Some}
 use Rattle.std.proofs.Common.{lit<, lit≤}
 use Rattle.number.specs.Be.{bytes_of}
 use Rattle.number.specs.Size.{needed, rounded, size_of}
@@ -32,10 +31,10 @@ pub cases :
     -- 512: written, as this file; read, from the 512th start on, with its end
     (write_of (arrays 512) 8192 2598 ≡ long 2598) ×
     (file_for (meanings_in (arrays 512)) ≡ nested 511) ×
-    (take 2 (drop 511 (answers 1024 (nested 511) fresh_reader)) ≡ means (array (some 0)) 1541 ∷ means close 1541 ∷ []) ×
+    (take 2 (drop 511 (answers 1024 (nested 511) fresh_reader)) ≡ means (array (Some 0)) 1541 ∷ means close 1541 ∷ []) ×
     -- 513: both refuse the last one with 15, at its offset in the tape and in the file
     (write_of (arrays 513) 8208 2603 ≡ writer.refused 15 [] 512) ×
-    (drop 511 (answers 514 (nested 512) fresh_reader) ≡ means (array (some 1)) 1541 ∷ refused 15 [] 1544 ∷ ended ∷ [])
+    (drop 511 (answers 514 (nested 512) fresh_reader) ≡ means (array (Some 1)) 1541 ∷ refused 15 [] 1544 ∷ ended ∷ [])
 unfolding words_for length_for told_for opened closing table_for offset step refs offsets size_of rounded needed
 cases = (
   within_written 511 (lit< tt) 8192 2598 (lit≤ tt) (lit≤ tt),

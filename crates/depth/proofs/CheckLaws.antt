@@ -1,6 +1,5 @@
 -- THE CHECK of a tape of arrays that stand inside each other, however many they are: it is whole exactly where they are 1 to max_open.
-use Rattle.std.specs.Prelude.{Bool, true, false, cond, List, [], ◌∷◌, ◌++◌, ◌↔◌, ◌≡◌, refl, ℕ, zero, suc, ◌+◌, ◌-◌, ◌≤◌, ◌<◌, ltb, leb, length, take, replicate}
-use Rattle.std.proofs.Math.Option.{none}
+use Rattle.std.specs.Prelude.{Bool, true, false, cond, List, [], ◌∷◌, ◌++◌, ◌↔◌, ◌≡◌, refl, ℕ, zero, suc, ◌+◌, ◌-◌, ◌≤◌, ◌<◌, ltb, leb, length, take, replicate, None}
 use Rattle.std.proofs.Common.{sym, ap, ◌∙◌, zero-add, arith, le-leb, ne_eqb, ltb-false, leb-true, leb-false, lit<, lit≤, length-append}
 use Rattle.std.proofs.lemmas.Bool.{lt-leb}
 use Rattle.std.proofs.lemmas.List.{length-replicate}
@@ -31,11 +30,11 @@ copies (suc n) b m e = rw (e, copies n b m e)
 
 pub tape_is : (n : ℕ) → tape_of (nest n) ≡ arrays n
 unfolding nest arrays bytes_for
-tape_is n = tape_append (replicate n (array none)) (replicate n close) ∙ rw (copies n 0x0A (array none) refl, copies n 0x0E close refl)
+tape_is n = tape_append (replicate n (array None)) (replicate n close) ∙ rw (copies n 0x0A (array None) refl, copies n 0x0E close refl)
 
 pub length_nest : (n : ℕ) → length (nest n) ≡ n + n
 unfolding nest
-length_nest n = length-append (replicate n (array none)) (replicate n close) ∙ rw (length-replicate n (array none), length-replicate n close)
+length_nest n = length-append (replicate n (array None)) (replicate n close) ∙ rw (length-replicate n (array None), length-replicate n close)
 
 length_arrays : (n : ℕ) → length (arrays n) ≡ n + n
 unfolding arrays
@@ -49,7 +48,7 @@ held n = starts n
     ends zero = tt
     ends (suc j) = ((tt, refl), ends j)
 
-    starts : (i : ℕ) → AllOnTape (replicate i (array none) ++ replicate n close)
+    starts : (i : ℕ) → AllOnTape (replicate i (array None) ++ replicate n close)
     starts zero = ends n
     starts (suc i) = ((tt, refl), starts i)
 
@@ -75,12 +74,12 @@ meanings_are n = rw (events_are n)
 -- event i, a start, begins at i
 starts_at : (n i : ℕ) → i ≤ n → start_at (arrays n) i ≡ i
 unfolding start_at nest bytes_for
-starts_at n i h = rw (meanings_are n, front i n h, copies i 0x0A (array none) refl) (length-replicate i 0x0A)
+starts_at n i h = rw (meanings_are n, front i n h, copies i 0x0A (array None) refl) (length-replicate i 0x0A)
   where
-    front : (i k : ℕ) → i ≤ k → take i (replicate k (array none) ++ replicate n close) ≡ replicate i (array none)
+    front : (i k : ℕ) → i ≤ k → take i (replicate k (array None) ++ replicate n close) ≡ replicate i (array None)
     front zero k h = refl
     front (suc i) zero h = absurd (omega arith)
-    front (suc i) (suc k) h = ap (λ (l : List Meaning). array none ∷ l) (front i k (omega arith))
+    front (suc i) (suc k) h = ap (λ (l : List Meaning). array None ∷ l) (front i k (omega arith))
 
 -- what is due once each of d + 1 open arrays is closed
 abbrev around : ℕ → List Due
@@ -92,11 +91,11 @@ length_around zero = refl
 length_around (suc d) = ap suc (length_around d)
 
 -- one array more, and one too many
-judge_start : (d : ℕ) (ms : List Meaning) → suc d < max_open → judge_from false Element (around d) (array none ∷ ms) ≡ later (judge_from false Element (around (suc d)) ms)
+judge_start : (d : ℕ) (ms : List Meaning) → suc d < max_open → judge_from false Element (around d) (array None ∷ ms) ≡ later (judge_from false Element (around (suc d)) ms)
 unfolding judge_from move_of turn_of unless_key after_of
 judge_start d ms h = rw (length_around d, lt-leb max_open (suc d) h, judge_from)
 
-judge_full : (d : ℕ) (ms : List Meaning) → max_open ≤ suc d → judge_from false Element (around d) (array none ∷ ms) ≡ stops 0 TooDeep
+judge_full : (d : ℕ) (ms : List Meaning) → max_open ≤ suc d → judge_from false Element (around d) (array None ∷ ms) ≡ stops 0 TooDeep
 unfolding judge_from move_of turn_of unless_key after_of
 judge_full d ms h = rw (length_around d, le-leb max_open (suc d) h, judge_from)
 
@@ -106,24 +105,24 @@ judge_ends zero = refl
 judge_ends (suc d) = rw (judge_ends d)
 
 -- q arrays more, where they aren't too many, and where they are
-judge_within : (q d : ℕ) → q + suc d ≤ max_open → judge_from false Element (around d) (replicate q (array none) ++ replicate (q + suc d) close) ≡ passes (q + (q + suc d))
+judge_within : (q d : ℕ) → q + suc d ≤ max_open → judge_from false Element (around d) (replicate q (array None) ++ replicate (q + suc d) close) ≡ passes (q + (q + suc d))
 unfolding later
 judge_within zero d h = rw (zero-add (suc d), zero-add (suc d)) (judge_ends d)
 judge_within (suc q) d h =
     let e : suc q + suc d ≡ q + suc (suc d) = omega arith in
     let f : suc (q + (q + suc (suc d))) ≡ suc q + (q + suc (suc d)) = omega arith in
-    rw e (judge_start d (replicate q (array none) ++ replicate (q + suc (suc d)) close) (omega arith) ∙ ap later (judge_within q (suc d) (omega arith)) ∙ ap passes f)
+    rw e (judge_start d (replicate q (array None) ++ replicate (q + suc (suc d)) close) (omega arith) ∙ ap later (judge_within q (suc d) (omega arith)) ∙ ap passes f)
 
-judge_deep : (q d : ℕ) (ms : List Meaning) → d < max_open → max_open < q + suc d → judge_from false Element (around d) (replicate q (array none) ++ ms) ≡ stops (max_open - suc d) TooDeep
+judge_deep : (q d : ℕ) (ms : List Meaning) → d < max_open → max_open < q + suc d → judge_from false Element (around d) (replicate q (array None) ++ ms) ≡ stops (max_open - suc d) TooDeep
 unfolding later
 judge_deep zero d ms g h = absurd (omega arith)
 judge_deep (suc q) d ms g h = go (leb max_open (suc d)) refl (λ lt. judge_deep q (suc d) ms lt (omega arith))
   where
     rest : List Meaning
-    rest = replicate q (array none) ++ ms
+    rest = replicate q (array None) ++ ms
 
     go : (b : Bool) → leb max_open (suc d) ≡ b → (suc d < max_open → judge_from false Element (around (suc d)) rest ≡ stops (max_open - suc (suc d)) TooDeep)
-        → judge_from false Element (around d) (array none ∷ rest) ≡ stops (max_open - suc d) TooDeep
+        → judge_from false Element (around d) (array None ∷ rest) ≡ stops (max_open - suc d) TooDeep
     go true e ih =
         let z : 0 ≡ max_open - suc d = omega (arith, leb-true max_open (suc d) e) in
         judge_full d rest (leb-true max_open (suc d) e) ∙ ap (λ (i : ℕ). stops i TooDeep) z
@@ -133,7 +132,7 @@ judge_deep (suc q) d ms g h = go (leb max_open (suc d)) refl (λ lt. judge_deep 
         judge_start d rest lt ∙ ap later (ih lt) ∙ ap (λ (i : ℕ). stops i TooDeep) z
 
 -- the root
-judge_root : (ms : List Meaning) → judge (whole (array none ∷ ms)) ≡ later (judge_from false Element (around 0) ms)
+judge_root : (ms : List Meaning) → judge (whole (array None ∷ ms)) ≡ later (judge_from false Element (around 0) ms)
 unfolding judge judge_from move_of turn_of unless_key after_of
 judge_root ms = refl
 
@@ -142,14 +141,14 @@ unfolding nest later
 judged_within k h =
     let e : suc k ≡ k + 1 = omega arith in
     let f : suc (k + (k + 1)) ≡ suc k + suc k = omega arith in
-    judge_root (replicate k (array none) ++ replicate (suc k) close)
-    ∙ ap (λ (j : ℕ). later (judge_from false Element (around 0) (replicate k (array none) ++ replicate j close))) e
+    judge_root (replicate k (array None) ++ replicate (suc k) close)
+    ∙ ap (λ (j : ℕ). later (judge_from false Element (around 0) (replicate k (array None) ++ replicate j close))) e
     ∙ ap later (judge_within k 0 (omega arith))
     ∙ ap passes f
 
 judged_deep : (k : ℕ) → max_open ≤ k → judge (whole (nest (suc k))) ≡ stops max_open TooDeep
 unfolding nest later
-judged_deep k h = judge_root (replicate k (array none) ++ replicate (suc k) close) ∙ ap later (judge_deep k 0 (replicate (suc k) close) (lit< tt) (omega arith))
+judged_deep k h = judge_root (replicate k (array None) ++ replicate (suc k) close) ∙ ap later (judge_deep k 0 (replicate (suc k) close) (lit< tt) (omega arith))
 
 -- what the check says, by the verdict
 by_verdict : (n : ℕ) (v : Verdict) → n + n ≤ max_length → judge (whole (nest n)) ≡ v → check_of (arrays n) ≡ said_by 0 (n + n) (start_at (arrays n)) v

@@ -1,7 +1,6 @@
 -- THE READER on the file of more than max_open arrays that stand inside each other: it gives max_open of them, and refuses the next with 15, at its offset.
-use Rattle.std.specs.Prelude.{Bool, true, false, ◌≡◌, eqb, get_or, replicate}
+use Rattle.std.specs.Prelude.{Bool, true, false, ◌≡◌, eqb, get_or, replicate, Some}
 use mathlib.Core.List.{List, [], ◌∷◌, ◌++◌}
-use Rattle.std.proofs.Math.Option.{some}
 use Rattle.std.proofs.Math.Path.{refl, ap}
 use Rattle.std.proofs.Common.{◌∙◌, zero-add, suc-add, le-leb, eqb-true, lit<, get_or-set_other}
 use Prim.Native.Nat.{ℕ, zero, suc, ◌+◌, ◌-◌, ◌≤◌, ◌<◌}
@@ -13,7 +12,7 @@ use Rattle.std.proofs.Math.Seq.{get_or-set_same}
 use Rattle.number.specs.SizeLaws.{size_of_fits}
 use Rattle.number.specs.Width.{bytes_in}
 use Rattle.event.specs.Format.{max_length, max_open}
-use Rattle.event.specs.Meaning.{array, meaning_of, given_of}
+use Rattle.event.specs.Meaning.{array, meaning_of}
 use Rattle.layout.specs.Frame.{new_frame, no_frame, next_in}
 use Rattle.layout.specs.Layout.{source_of}
 use Rattle.layout.specs.Looked.{Source, Shape, container, start_of}
@@ -139,7 +138,7 @@ module _ (k j : ℕ) (short : length (file_of (es k j)) ≤ max_length) where
   -- from array i on, n more are opened, and the next is refused
   descend : (n i q m : ℕ) (fr : List Frame) → max_open ≤ k → suc i + n ≡ max_open → Down i fr
       → answers (n + suc m) file (inside base q i fr) ≡ opened k n (suc i) ++ (refused 15 [] (offset k (suc i + n)) ∷ replicate m ended)
-  unfolding opened told meaning_at meaning_of start_of given_of
+  unfolding opened told meaning_at meaning_of start_of
   descend zero i q m fr g e o =
       let at : offset k (suc i) ≡ offset k (suc i + 0) = ap (offset k) (omega arith) in
       let s = opens q i fr (omega arith)
@@ -153,10 +152,10 @@ module _ (k j : ℕ) (short : length (file_of (es k j)) ≤ max_length) where
       let p : suc (suc i) + n ≡ suc i + suc n = omega arith in
       rw (suc-add n (suc m))
       (answers_next (n + suc m) (inside base q i fr) (inside base at (suc i) on) _ s
-      ∙ ap (λ (l : List Told). means (array (some 1)) at ∷ l) (rw p at (descend n (suc i) at m on g (omega arith) (deeper i fr (omega arith) o))))
+      ∙ ap (λ (l : List Told). means (array (Some 1)) at ∷ l) (rw p at (descend n (suc i) at m on g (omega arith) (deeper i fr (omega arith) o))))
 
   from_fresh : (n m : ℕ) → max_open ≤ k → suc n ≡ max_open → answers (suc n + suc m) file fresh_reader ≡ opened k (suc n) 0 ++ (refused 15 [] (offset k (suc n)) ∷ replicate m ended)
-  unfolding opened told meaning_at meaning_of start_of given_of
+  unfolding opened told meaning_at meaning_of start_of
   from_fresh n m g e =
       let fr = set (replicate max_open no_frame) 0 (inner 0) in
       let at = offset k 0 in
@@ -164,7 +163,7 @@ module _ (k j : ℕ) (short : length (file_of (es k j)) ≤ max_length) where
       let p : 1 + n ≡ suc n = omega arith in
       rw (suc-add n (suc m))
       (answers_next (n + suc m) fresh_reader (inside base at 0 fr) _ s
-      ∙ ap (λ (l : List Told). means (array (some 1)) at ∷ l) (rw p at (descend n 0 at m fr g (omega arith) (outermost (replicate max_open no_frame) (length-replicate max_open no_frame)))))
+      ∙ ap (λ (l : List Told). means (array (Some 1)) at ∷ l) (rw p at (descend n 0 at m fr g (omega arith) (outermost (replicate max_open no_frame) (length-replicate max_open no_frame)))))
 
 -- THE REFUSAL
 pub deep_read : (k : ℕ) → max_open ≤ k → length_for k ≤ max_length → (m : ℕ) → answers (max_open + suc m) (nested k) fresh_reader ≡ opened k max_open 0 ++ (refused 15 [] (offset k max_open) ∷ replicate m ended)

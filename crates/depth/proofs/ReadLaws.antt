@@ -1,7 +1,6 @@
 -- THE READER on the file of 1 to max_open arrays that stand inside each other: it gives them all, then the end for ever.
 use mathlib.Core.List.{List, [], ◌∷◌, ◌++◌}
-use Rattle.std.proofs.Math.Option.{some}
-use Rattle.std.specs.Prelude.{◌≡◌, replicate}
+use Rattle.std.specs.Prelude.{◌≡◌, replicate, Some}
 use Rattle.std.proofs.Math.Path.{refl}
 use Rattle.std.proofs.Common.{ap, zero-add}
 use Prim.Native.Nat.{ℕ, zero, suc, ◌+◌, ◌≤◌, ◌<◌}
@@ -36,7 +35,7 @@ module _ (k : ℕ) where
   told_ends n zero h = refl
   told_ends n (suc m) h = rw (place_is k (suc k) m (omega arith), told_ends (suc n) m (omega arith))
 
-  told_from : (q i : ℕ) → i + q ≡ k → told_of (handed_from place i (down i) (pieces (suc q) (suc k))) ≡ opened k q i ++ (means (array (some 0)) (offset k k) ∷ closing k (suc k))
+  told_from : (q i : ℕ) → i + q ≡ k → told_of (handed_from place i (down i) (pieces (suc q) (suc k))) ≡ opened k q i ++ (means (array (Some 0)) (offset k k) ∷ closing k (suc k))
   unfolding handed_from opened pieces
   told_from zero i e =
       let z : i ≡ k = omega arith in
@@ -46,7 +45,7 @@ module _ (k : ℕ) where
   told_from (suc q) i e =
       let c : length (kids 0 (suc i) (pieces (suc q) (suc k))) ≡ 1 = rw (kids_one (suc i) q (suc k)) in
       let p : place (box i) ≡ offset k i = place_is k (suc k) i (omega arith) in
-      rw (c, p) (ap (λ (l : List Told). means (array (some 1)) (offset k i) ∷ l) (told_from q (suc i) (omega arith)))
+      rw (c, p) (ap (λ (l : List Told). means (array (Some 1)) (offset k i) ∷ l) (told_from q (suc i) (omega arith)))
 
   -- what the reader is to hand out
   told_is : told_of (handed_of (nest (suc k))) ≡ told_for k

@@ -1,7 +1,6 @@
 -- ARRAYS, EACH INSIDE THE LAST: their events and their tape; their file, byte by byte; what a check and a reader say of them. The case "depth" of
 -- docs/FORMAT.md, P, for any number of arrays.
-use Rattle.std.specs.Prelude.{cond, List, [], ◌∷◌, ◌++◌, ℕ, zero, suc, ◌+◌, ◌*◌, eqb, leb, ltb, replicate}
-use Rattle.std.proofs.Math.Option.{none, some}
+use Rattle.std.specs.Prelude.{cond, List, [], ◌∷◌, ◌++◌, ℕ, zero, suc, ◌+◌, ◌*◌, eqb, leb, ltb, replicate, None, Some}
 use Rattle.number.specs.Be.{bytes_of}
 use Rattle.number.specs.Size.{size_of}
 use Rattle.event.specs.Format.{magic, max_length, max_open}
@@ -12,7 +11,7 @@ use Rattle.written.specs.Encoding.{numbers_bytes, trailer_bytes}
 
 -- n arrays, each inside the last: the events, and the tape of them without lengths
 unfoldable pub nest : ℕ → List Meaning
-nest n = replicate n (array none) ++ replicate n close
+nest n = replicate n (array None) ++ replicate n close
 
 unfoldable pub arrays : ℕ → List ℕ
 arrays n = replicate n 0x0A ++ replicate n 0x0E
@@ -61,7 +60,7 @@ length_for k = table_for k + suc k * offsets k + 32
 -- What a reader tells of that file: the starts of n arrays from array i on, each with one in it
 unfoldable pub opened : ℕ → ℕ → ℕ → List Told
 opened k zero i = []
-opened k (suc n) i = means (array (some 1)) (offset k i) ∷ opened k n (suc i)
+opened k (suc n) i = means (array (Some 1)) (offset k i) ∷ opened k n (suc i)
 
 -- the ends of the first n, the innermost first
 unfoldable pub closing : ℕ → ℕ → List Told
@@ -70,4 +69,4 @@ closing k (suc n) = means close (offset k n) ∷ closing k n
 
 -- the whole file
 unfoldable pub told_for : ℕ → List Told
-told_for k = opened k k 0 ++ (means (array (some 0)) (offset k k) ∷ closing k (suc k))
+told_for k = opened k k 0 ++ (means (array (Some 0)) (offset k k) ∷ closing k (suc k))

@@ -1,7 +1,6 @@
 -- The objects of arrays that stand inside each other: the i-th has number i, stands behind the i before it, and names the one after it.
-use Rattle.std.specs.Prelude.{Bool, false, cond, List, [], ◌∷◌, ◌++◌, map, ◌≡◌, refl, ℕ, zero, suc, ◌+◌, ◌≤◌, ◌<◌, length, get_or, drop, replicate}
+use Rattle.std.specs.Prelude.{Bool, false, cond, List, [], ◌∷◌, ◌++◌, map, ◌≡◌, refl, ℕ, zero, suc, ◌+◌, ◌≤◌, ◌<◌, length, get_or, drop, replicate, None}
 use Rattle.std.proofs.lemmas.List.{map-append}
-use Rattle.std.proofs.Math.Option.{none}
 use Rattle.std.proofs.Common.{sym, ap, ◌∙◌, zero-add, add-zero, suc-add, arith, ne_eqb}
 use Rattle.event.specs.Meaning.{Meaning, array, close}
 use Rattle.written.specs.Graph.{arr, Piece, start, end, piece_of, Name, box, same, kids, laid, names, order, number, spoken, emission}
@@ -16,7 +15,7 @@ pieces k j = replicate k (start arr) ++ replicate j end
 
 pub pieces_of : (n : ℕ) → map piece_of (nest n) ≡ pieces n n
 unfolding nest pieces piece_of
-pieces_of n = map-append piece_of (replicate n (array none)) (replicate n close) ∙ rw (map_replicate n (array none), map_replicate n close)
+pieces_of n = map-append piece_of (replicate n (array None)) (replicate n close) ∙ rw (map_replicate n (array None), map_replicate n close)
   where
     map_replicate : (n : ℕ) (m : Meaning) → map piece_of (replicate n m) ≡ replicate n (piece_of m)
     map_replicate zero m = refl

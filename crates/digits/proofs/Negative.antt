@@ -1,43 +1,38 @@
 -- The sign of a number of 64 bits, as the machine reads it back from its bits, and the digits of what it is made of.
 use mathlib.Core.Bool.{true, false, false≢true}
-use mathlib.Core.Path.{◌≡◌, refl, sym}
-use Prim.Native.Nat.{ℕ, ◌+◌, ◌^◌, ◌≤◌, ◌<◌}
+use mathlib.Core.Path.{◌≡◌, refl, sym, ap}
+use Prim.Native.Nat.{ℕ, suc, ◌+◌, ◌^◌, ◌≤◌, ◌<◌}
 use native.Mathlib.Omega.{arith}
 use borrow.Author.Tests.{ltb-true}
-use lib.IntN.{ℤ, pos, negsuc}
+use lib.IntN.{ℤ, pos, negsuc, nat_abs}
 use lib.Signed.{lt_z}
 use mir.Syntax.{w64}
 use mir.Val.{SFits, to_z, of_z}
 use mir.Facts.{to_z-of_z}
 use lib.ListN.{length}
-use Rattle.number.specs.Signed.{magnitude_of}
-use Rattle.digits.specs.Digits.{signed}
+use Rattle.digits.specs.Digits.{minus, signed}
 use Rattle.digits.specs.DigitsLaws.{signed_few}
 use Rattle.digits.specs.Sign.{sign_digits}
 use Rattle.digits.specs.declared.decimal.Sign.TheVariants.{Plus, Minus}
 
-negative : (z : ℤ) → SFits w64 z → lt_z z (pos 0) ≡ true → (z ≡ negsuc (magnitude_of z)) × (magnitude_of z < 2 ^ 63)
-unfolding magnitude_of
-negative (pos n) f e = absurd (let h : n < 0 = ltb-true n 0 e in omega arith)
-negative (negsuc k) f e = (refl, f.sfits)
-
-other : (z : ℤ) → lt_z z (pos 0) ≡ false → z ≡ pos (magnitude_of z)
-unfolding magnitude_of
-other (pos n) e = refl
-other (negsuc k) e = absurd (false≢true (sym e))
-
-module _ (z : ℤ) (f : SFits w64 z) where
-  pub below : lt_z (to_z w64 (of_z w64 z)) (pos 0) ≡ true → (z ≡ negsuc (magnitude_of z)) × (magnitude_of z < 2 ^ 63)
-  below e = negative z f (rw (to_z-of_z f) at e)
-
-  pub above : lt_z (to_z w64 (of_z w64 z)) (pos 0) ≡ false → z ≡ pos (magnitude_of z)
-  above e = other z (rw (to_z-of_z f) at e)
-
--- -1 - k is k + 1 behind a minus
-pub minus_digits : (z : ℤ) (k : ℕ) → z ≡ negsuc k → k < 2 ^ 63 → (sign_digits (Minus (k + 1)) ≡ signed z) × (length (sign_digits (Minus (k + 1))) ≤ 20)
+-- a negative number is its size behind a minus
+pub below : (z : ℤ) → SFits w64 z → lt_z (to_z w64 (of_z w64 z)) (pos 0) ≡ true → (sign_digits (Minus (nat_abs (to_z w64 (of_z w64 z)))) ≡ signed z) × (length (signed z) ≤ 20)
 unfolding sign_digits signed
-minus_digits z k e h = rw e (refl, signed_few (negsuc k) h)
+below (pos n) f e = absurd (let h : n < 0 = ltb-true n 0 (rw (to_z-of_z f) at e) in omega arith)
+below (negsuc k) f e = let a : suc k ≡ k + 1 = omega arith in rw (to_z-of_z f) (ap minus a, signed_few (negsuc k) f.sfits)
 
-pub plus_digits : (z : ℤ) (n : ℕ) → z ≡ pos n → n < 2 ^ 64 → (sign_digits (Plus n) ≡ signed z) × (length (sign_digits (Plus n)) ≤ 20)
+-- any other is its size
+pub above : (z : ℤ) → SFits w64 z → lt_z (to_z w64 (of_z w64 z)) (pos 0) ≡ false → (sign_digits (Plus (nat_abs (to_z w64 (of_z w64 z)))) ≡ signed z) × (length (signed z) ≤ 20)
 unfolding sign_digits signed
-plus_digits z n e h = rw e (refl, signed_few (pos n) h)
+above (pos n) f e = let h : n < 2 ^ 63 = f.sfits in rw (to_z-of_z f) (refl, signed_few (pos n) (omega arith))
+above (negsuc k) f e = absurd (false≢true (sym (rw (to_z-of_z f) at e)))
+
+pub plus_is : (n : ℕ) → sign_digits (Plus n) ≡ signed (pos n)
+unfolding sign_digits signed
+plus_is n = refl
+
+pub plus_few : (n : ℕ) → n < 2 ^ 64 → length (sign_digits (Plus n)) ≤ 20
+unfolding sign_digits signed
+plus_few n h = signed_few (pos n) h
+
+pub ruleset sign_steps = (below, above, plus_is, plus_few)

@@ -1,12 +1,10 @@
 -- Bytes put into lent memory from a place on: whole, where they fit; else nothing changes.
-use Rattle.std.specs.Prelude.{cond, List, ◌≡◌, ℕ, ◌+◌, leb, length}
+use Rattle.std.specs.Prelude.{cond, List, ◌≡◌, ℕ, ◌+◌, leb, length, None, Option, Some}
 use Rattle.std.proofs.lemmas.List.Edits.{sets}
-use Rattle.digits.specs.declared.Put.{Put}
-use Rattle.digits.specs.declared.Put.TheVariants.{End, NoRoom}
 
 -- the answer: the place behind them
-unfoldable pub put_end : List ℕ → ℕ → List ℕ → Put
-put_end out at vs = cond (leb (at + length vs) (length out)) (End (at + length vs)) NoRoom
+unfoldable pub put_end : List ℕ → ℕ → List ℕ → Option ℕ
+put_end out at vs = cond (leb (at + length vs) (length out)) (Some (at + length vs)) None
 
 -- the memory afterwards
 unfoldable pub put_into : List ℕ → ℕ → List ℕ → List ℕ

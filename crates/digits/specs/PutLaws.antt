@@ -1,12 +1,11 @@
 -- What was put and where it ends; pieces one behind the other.
-use Rattle.std.specs.Prelude.{Bool, true, false, List, [], ◌∷◌, ◌++◌, ◌≡◌, refl, ℕ, suc, ◌+◌, ◌≤◌, ◌<◌, leb, length, set}
+use Rattle.std.specs.Prelude.{Bool, true, false, List, [], ◌∷◌, ◌++◌, ◌≡◌, refl, ℕ, suc, ◌+◌, ◌≤◌, ◌<◌, leb, length, set, None, Some}
 use Rattle.std.proofs.Common.{sym, ap, ◌∙◌, add-zero, add-suc, suc-add, add-one, arith, le-leb, leb-true, leb-false, length-append}
 use Rattle.std.proofs.Math.Decide.{dec_lt}
 use Rattle.std.proofs.lemmas.Bool.{lt-leb}
 use Rattle.std.proofs.lemmas.List.Edits.{sets}
 use Rattle.std.proofs.Math.Seq.{length-sets}
 use Rattle.digits.specs.Put.{Written, put_end, put_into}
-use Rattle.digits.specs.declared.Put.TheVariants.{End, NoRoom}
 
 -- two tests that say the same
 pub same_test : (a b c d : ℕ) → (a ≤ b → c ≤ d) → (c ≤ d → a ≤ b) → leb a b ≡ leb c d
@@ -25,20 +24,20 @@ same_test a b c d f g =
 -- ---- whole, or nothing
 
 -- what was written where it fits is put
-pub put_whole : {out : List ℕ} {at : ℕ} {vs after : List ℕ} {end : ℕ} → Written out at vs after end → at + length vs ≤ length out → (End end ≡ put_end out at vs) × (after ≡ put_into out at vs)
+pub put_whole : {out : List ℕ} {at : ℕ} {vs after : List ℕ} {end : ℕ} → Written out at vs after end → at + length vs ≤ length out → (Some end ≡ put_end out at vs) × (after ≡ put_into out at vs)
 unfolding put_end put_into
-put_whole w h = rw (le-leb _ _ h) (ap End w.place, w.memory)
+put_whole w h = rw (le-leb _ _ h) (ap Some w.place, w.memory)
 
 -- where it doesn't fit nothing is
-pub put_none : (out : List ℕ) (at : ℕ) (vs : List ℕ) → length out < at + length vs → (NoRoom ≡ put_end out at vs) × (out ≡ put_into out at vs)
+pub put_none : (out : List ℕ) (at : ℕ) (vs : List ℕ) → length out < at + length vs → (None ≡ put_end out at vs) × (out ≡ put_into out at vs)
 unfolding put_end put_into
 put_none out at vs h = rw (lt-leb _ _ h) (refl, refl)
 
 -- the same from the test of a size that was measured
-pub put_fits : {out : List ℕ} {at : ℕ} {vs after : List ℕ} {end : ℕ} (size : ℕ) → size ≡ length vs → Written out at vs after end → leb (at + size) (length out) ≡ true → (End end ≡ put_end out at vs) × (after ≡ put_into out at vs)
+pub put_fits : {out : List ℕ} {at : ℕ} {vs after : List ℕ} {end : ℕ} (size : ℕ) → size ≡ length vs → Written out at vs after end → leb (at + size) (length out) ≡ true → (Some end ≡ put_end out at vs) × (after ≡ put_into out at vs)
 put_fits {out} {at} size measured w e = put_whole w (rw measured at (leb-true (at + size) (length out) e))
 
-pub put_unfit : (out : List ℕ) (at : ℕ) (vs : List ℕ) (size : ℕ) → size ≡ length vs → leb (at + size) (length out) ≡ false → (NoRoom ≡ put_end out at vs) × (out ≡ put_into out at vs)
+pub put_unfit : (out : List ℕ) (at : ℕ) (vs : List ℕ) (size : ℕ) → size ≡ length vs → leb (at + size) (length out) ≡ false → (None ≡ put_end out at vs) × (out ≡ put_into out at vs)
 put_unfit out at vs size measured e = put_none out at vs (rw measured at (leb-false (at + size) (length out) e))
 
 -- what is put where it fits is written

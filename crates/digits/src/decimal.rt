@@ -5,34 +5,28 @@ ghost use Rattle.digits.specs.Digits.{digits_of, decimal, minus, signed};
 ghost use Rattle.digits.specs.Put.{Written, put_end, put_into};
 ghost use Rattle.digits.specs.Sign.{sign_digits};
 
-use crate::{Put, fits};
+use crate::fits;
 use event::Integer;
-use number::signed::magnitude;
 
 // How many digits a number has.
+#[tactic(auto, using(crate::specs::DigitsLaws::decimal_places))]
 pub fn decimal_length(n: u64) -> usize
     ensures value { result ≡ length (decimal n) }
     ensures upper_bound { result ≤ 20 }
 {
-    let mut places: usize = 1;
-    let mut left: u64 = n;
-    while 10 <= left {
-        left = left / 10;
-        places += 1;
-    }
-    places
+    n.max(1).ilog10() as usize + 1
 }
 
 // The digits of a number.
-pub fn put_decimal(out: &mut [u8], at: usize, n: u64) -> Put
+pub fn put_decimal(out: &mut [u8], at: usize, n: u64) -> Option<usize>
     ensures value { result ≡ put_end out.old at (decimal n) }
     ensures out_after { out.new ≡ put_into out.old at (decimal n) }
 {
     let places = decimal_length(n);
     if fits(out.len(), at, places) {
-        return Put::End(write_digits(out, at, places, n));
+        return Some(write_digits(out, at, places, n));
     }
-    Put::NoRoom
+    None
 }
 
 // How many bytes a number has with its sign.
@@ -47,7 +41,7 @@ pub fn signed_length(integer: Integer) -> usize
 }
 
 // A number with its sign: a minus stands before a negative one, nothing before another.
-pub fn put_signed(out: &mut [u8], at: usize, integer: Integer) -> Put
+pub fn put_signed(out: &mut [u8], at: usize, integer: Integer) -> Option<usize>
     ensures value { result ≡ put_end out.old at (signed (value_of integer)) }
     ensures out_after { out.new ≡ put_into out.old at (signed (value_of integer)) }
 {
@@ -57,16 +51,16 @@ pub fn put_signed(out: &mut [u8], at: usize, integer: Integer) -> Put
     }
 }
 
-fn put_minus(out: &mut [u8], at: usize, n: u64) -> Put
+fn put_minus(out: &mut [u8], at: usize, n: u64) -> Option<usize>
     ensures value { result ≡ put_end out.old at (minus n) }
     ensures out_after { out.new ≡ put_into out.old at (minus n) }
 {
     let places = decimal_length(n);
     if fits(out.len(), at, 1 + places) {
         out[at] = b'-';
-        return Put::End(write_digits(out, at + 1, places, n));
+        return Some(write_digits(out, at + 1, places, n));
     }
-    Put::NoRoom
+    None
 }
 
 // A number, and what stands behind a minus.
@@ -76,18 +70,14 @@ pub(crate) enum Sign {
     Minus(u64),
 }
 
+#[tactic(auto, using(crate::proofs::Negative::sign_steps), unfolding(event::specs::Meaning::value_of))]
 fn sign_of(integer: Integer) -> Sign
     ensures result_value { sign_digits result ≡ signed (value_of integer) }
     ensures result_len_bound { length (sign_digits result) ≤ 20 }
 {
     match integer {
-        Integer::Signed(z) => {
-            if z < 0 {
-                Sign::Minus(magnitude(z) + 1)
-            } else {
-                Sign::Plus(magnitude(z))
-            }
-        }
+        Integer::Signed(z) if z < 0 => Sign::Minus(z.unsigned_abs()),
+        Integer::Signed(z) => Sign::Plus(z.unsigned_abs()),
         Integer::Unsigned(n) => Sign::Plus(n),
     }
 }
@@ -97,12 +87,10 @@ pub(crate) fn write_digits(out: &mut [u8], at: usize, places: usize, n: u64) -> 
     requires { at + places ≤ length out.old }
     ensures { Written out.old at (digits_of places n) out.new result }
 {
-    let mut k: usize = places;
-    let mut left: u64 = n;
-    while 0 < k {
-        k -= 1;
-        out[at + k] = (48 + left % 10) as u8;
-        left = left / 10;
+    let mut left = n;
+    for k in (0..places).rev() {
+        out[at + k] = b'0' + (left % 10) as u8;
+        left /= 10;
     }
     at + places
 }

@@ -4,14 +4,14 @@ ghost use Rattle.digits.specs.Put.{Written, put_end, put_into};
 ghost use Rattle.digits.specs.Stamp.{field, three, stamp};
 
 use crate::decimal::write_digits;
-use crate::{Put, fits};
+use crate::fits;
 use calendar::Time;
 
 // How many bytes it has, whatever day and time it is.
 pub const STAMP_LENGTH: usize = 20;
 
 // The low four digits of the year and the low two of each other field: all of them where there is such a day and time.
-pub fn put_stamp(out: &mut [u8], at: usize, time: Time) -> Put
+pub fn put_stamp(out: &mut [u8], at: usize, time: Time) -> Option<usize>
     ensures value { result ≡ put_end out.old at (stamp time) }
     ensures out_after { out.new ≡ put_into out.old at (stamp time) }
 {
@@ -27,9 +27,9 @@ pub fn put_stamp(out: &mut [u8], at: usize, time: Time) -> Put
             b':',
             b'Z',
         );
-        return Put::End(end);
+        return Some(end);
     }
-    Put::NoRoom
+    None
 }
 
 // Three fields, a day or a time of day: the first may have more places, and another mark ends them.

@@ -1,4 +1,5 @@
 -- Bytes of the tape that pass its end, or lie within it.
+use Rattle.std.specs.Prelude.{Some}
 use mathlib.Core.List.{List, [], ◌∷◌}
 use mathlib.Core.Path.{◌≡◌}
 use Prim.Native.Nat.{ℕ, ◌+◌, ◌-◌, ◌≤◌, ◌<◌}
@@ -6,7 +7,6 @@ use native.Mathlib.Nat.{add-sub_cancel_left}
 use borrow.Author.Tests.{le-leb, lt-leb}
 use lib.ListN.{length, take, drop}
 use Rattle.number.specs.PartLaws.{length_part}
-use Rattle.tape.specs.declared.value.Value.TheVariants.{Of}
 use Rattle.encode.specs.Put.{eight_in, run_in}
 
 -- the code's part ends at a sum
@@ -24,10 +24,10 @@ module _ (tape : List ℕ) (at : ℕ) where
     eight_part h = rw (add-sub_cancel_left, le-leb (at + 8) (length tape) h)
 
   module _ (f : List ℕ → List ℕ) (n : ℕ) where
-    pub run_past : length tape < at + n → [] ≡ run_in tape f (Of n at)
+    pub run_past : length tape < at + n → [] ≡ run_in tape f (Some (n, at))
     unfolding run_in
     run_past h = rw (lt-leb (at + n) (length tape) h)
 
-    pub run_part : at + n ≤ length tape → f (take (at + n - at) (drop at tape)) ≡ run_in tape f (Of n at)
+    pub run_part : at + n ≤ length tape → f (take (at + n - at) (drop at tape)) ≡ run_in tape f (Some (n, at))
     unfolding run_in
     run_part h = rw (add-sub_cancel_left, le-leb (at + n) (length tape) h)

@@ -1,12 +1,10 @@
 -- Bytes that are put at the start of lent memory, and the bytes of the scalar that stands at a place of a tape.
-use Rattle.std.specs.Prelude.{cond, List, [], ◌∷◌, ◌++◌, ℕ, ◌+◌, ◌-◌, ltb, leb, eqb, pos, length, get_or}
+use Rattle.std.specs.Prelude.{cond, List, [], ◌∷◌, ◌++◌, ℕ, ◌+◌, ◌-◌, ltb, leb, eqb, pos, length, get_or, None, Option, Some}
 use Rattle.std.proofs.lemmas.List.Edits.{sets}
 use Rattle.number.specs.Be.{bytes_of}
 use Rattle.number.specs.Size.{size_of}
 use Rattle.number.specs.Part.{part}
 use Rattle.tape.specs.Value.{number_at}
-use Rattle.tape.specs.declared.value.Value.{Value}
-use Rattle.tape.specs.declared.value.Value.TheVariants.{Of, NoValue}
 use Rattle.utf.specs.Unicode.{to_utf16}
 use Rattle.written.specs.Encoding.{integer_bytes, head_bytes}
 use Rattle.encode.specs.declared.put.Base.{Base}
@@ -36,9 +34,9 @@ base_of Array = 0xA0
 base_of Dictionary = 0xD0
 
 -- an object of the number that stands on the tape
-unfoldable pub numbered : (ℕ → List ℕ) → Value → List ℕ
-numbered f (Of n next) = f n
-numbered f NoValue = []
+unfoldable pub numbered : (ℕ → List ℕ) → Option (ℕ × ℕ) → List ℕ
+numbered f (Some (n, next)) = f n
+numbered f None = []
 
 -- an integer at or above zero (W8)
 unfoldable pub positive : ℕ → List ℕ
@@ -56,9 +54,9 @@ unfoldable pub eight_in : List ℕ → ℕ → ℕ → List ℕ
 eight_in tape at marker = cond (leb (at + 8) (length tape)) (marker ∷ part tape at 8) []
 
 -- an object of so many bytes of the tape, where they lie within it
-unfoldable pub run_in : List ℕ → (List ℕ → List ℕ) → Value → List ℕ
-run_in tape f (Of n at) = cond (leb (at + n) (length tape)) (f (part tape at n)) []
-run_in tape f NoValue = []
+unfoldable pub run_in : List ℕ → (List ℕ → List ℕ) → Option (ℕ × ℕ) → List ℕ
+run_in tape f (Some (n, at)) = cond (leb (at + n) (length tape)) (f (part tape at n)) []
+run_in tape f None = []
 
 -- bytes behind their head
 unfoldable pub headed : ℕ → List ℕ → List ℕ
@@ -69,7 +67,7 @@ unfoldable pub in_utf16 : ℕ → List ℕ → List ℕ
 in_utf16 units s = head_bytes 0x60 units ++ to_utf16 s
 
 -- a text: 0 units say that it is ASCII
-unfoldable pub text_in : List ℕ → ℕ → Value → List ℕ
+unfoldable pub text_in : List ℕ → ℕ → Option (ℕ × ℕ) → List ℕ
 text_in tape units v = cond (eqb units 0) (run_in tape (headed 0x50) v) (run_in tape (in_utf16 units) v)
 
 -- what stands behind a kind, from a place on

@@ -1,10 +1,8 @@
 -- What is answered of sizes and bytes, in the numbers and places of docs/FORMAT.md, N.
-use Rattle.std.specs.Prelude.{ℕ}
+use Rattle.std.specs.Prelude.{ℕ, None, Option, Some}
 use Rattle.encode.specs.declared.put.Put.{Put}
 use Rattle.encode.specs.declared.put.Put.TheVariants.{Bytes, NoRoom, NoScalar}
 use Rattle.encode.specs.declared.size.Size.{Size}
-use Rattle.encode.specs.declared.size.Sized.{Sized}
-use Rattle.encode.specs.declared.size.Sized.TheVariants.{Found, NoScalar as NoSize}
 
 -- what is given, or a refusal's number and place
 pub data Said (A : Type 0) : Type 0 where
@@ -17,6 +15,6 @@ put_said at (Bytes n) = given n
 put_said at NoRoom = refused 25 0
 put_said at NoScalar = refused 20 at
 
-unfoldable pub size_said : ℕ → Sized → Said Size
-size_said at (Found size) = given size
-size_said at NoSize = refused 20 at
+unfoldable pub size_said : ℕ → Option Size → Said Size
+size_said at (Some size) = given size
+size_said at None = refused 20 at

@@ -1,5 +1,5 @@
 -- The bytes of the scalar at a place of a tape are those of what is read there.
-use Rattle.std.specs.Prelude.{Bool, cond, ◌≡◌, ℕ, suc, ◌+◌, ◌-◌, ◌/◌, ◌%◌, ◌≤◌, ◌<◌, ◌^◌, ltb, pos, negsuc, get_or}
+use Rattle.std.specs.Prelude.{Bool, cond, ◌≡◌, ℕ, suc, ◌+◌, ◌-◌, ◌/◌, ◌%◌, ◌≤◌, ◌<◌, ◌^◌, ltb, pos, negsuc, get_or, Some}
 use Rattle.std.proofs.Math.Bool.{true, false}
 use Rattle.std.proofs.Common.{true≢false, ◌∙◌, add-one, arith, drop-cons, drop-drop, drop_at}
 use mathlib.Core.List.{List, [], ◌∷◌, ◌++◌, append_assoc}
@@ -18,7 +18,6 @@ use Rattle.tape.specs.Seven.{seven}
 use Rattle.tape.specs.SevenLaws.{seven_some}
 use Rattle.tape.specs.Value.{number_at}
 use Rattle.tape.specs.ValueLaws.{number_seven}
-use Rattle.tape.specs.declared.value.Value.TheVariants.{Of}
 use Rattle.utf.specs.Unicode.{is_ascii, is_utf8, utf8, utf16_of, utf16, scalars8}
 use Rattle.utf.specs.Utf8Bits.{utf8_again}
 use Rattle.written.specs.Encoding.{scalar_bytes, integer_bytes, text_bytes}
@@ -46,7 +45,7 @@ module _ (tape : List ℕ) (at : ℕ) where
       let g : drop (suc at) tape ≡ s = cc in
       (sym (bytes_of_law tape at units k h f), rw add-one g)
 
-  number_there : (n : ℕ) (q : List ℕ) → n < 2 ^ 64 → drop at tape ≡ seven n ++ q → number_at tape at ≡ Of n (at + length (seven n))
+  number_there : (n : ℕ) (q : List ℕ) → n < 2 ^ 64 → drop at tape ≡ seven n ++ q → number_at tape at ≡ Some (n, at + length (seven n))
   unfolding number_at
   number_there n q h e = rw e (number_seven at n q h)
 

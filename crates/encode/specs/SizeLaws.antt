@@ -1,5 +1,6 @@
 -- The sizes that the code finds are the lengths of the bytes.
-use Rattle.std.specs.Prelude.{Bool, true, List, ◌∷◌, ◌++◌, ◌⊎◌, ◌≡◌, refl, ℕ, ◌+◌, ◌^◌, ◌≤◌, ◌<◌, pos, negsuc, get_or}
+use Rattle.encode.specs.declared.size.Size.{Size}
+use Rattle.std.specs.Prelude.{Bool, true, List, ◌∷◌, ◌++◌, ◌⊎◌, ◌≡◌, refl, ℕ, ◌+◌, ◌^◌, ◌≤◌, ◌<◌, pos, negsuc, get_or, None, Option, Some}
 use Rattle.std.proofs.Math.Bool.{false, and-false}
 use Rattle.std.proofs.Common.{inl, inr, ap, ◌∙◌, length-append}
 use native.Mathlib.Omega.{arith}
@@ -14,7 +15,6 @@ use Rattle.tape.specs.Item.{event, read_at}
 use Rattle.tape.specs.Seven.{seven}
 use Rattle.tape.proofs.StandsLaws.{kind_inside, kind_there, number_there, run_there}
 use Rattle.tape.specs.Value.{number_at}
-use Rattle.tape.specs.declared.value.Value.TheVariants.{Of}
 use Rattle.utf.specs.ToUtf16.{units_in}
 use Rattle.utf.specs.ToUtf16Walk.{counted, length_utf16}
 use Rattle.utf.specs.Unicode.{is_ascii, is_utf8}
@@ -22,8 +22,6 @@ use Rattle.written.specs.Encoding.{integer_bytes, head_bytes, text_bytes, scalar
 use Rattle.written.proofs.EncodingLaws.{length_number_law, head_length, head_pos, head_le}
 use Rattle.written.specs.Scalar.{IsScalar, units_for}
 use Rattle.encode.specs.Size.{head_size, bytes_alone, integer_size, uid_size, data_size, part_size, text_size, size_behind, size_at}
-use Rattle.encode.specs.declared.size.Sized.{Sized}
-use Rattle.encode.specs.declared.size.Sized.TheVariants.{Found, NoScalar}
 
 pub length_head : (base n : ℕ) → length (head_bytes base n) ≡ head_size n
 unfolding head_size
@@ -36,19 +34,19 @@ pub head_size_le : (n : ℕ) → head_size n ≤ 10
 head_size_le n = rw (length_head 0 n) at (head_le 0 n)
 
 -- the bytes and units of a scalar
-abbrev size_for : Meaning → Sized
-size_for m = Found (record { bytes = length (scalar_bytes m); units = units_for m })
+abbrev size_for : Meaning → Option Size
+size_for m = Some (record { bytes = length (scalar_bytes m); units = units_for m })
 
 -- what a kind and what stands behind it tell
-integer_size_law : (n next : ℕ) → integer_size (Of n next) ≡ size_for (integer (pos n))
+integer_size_law : (n next : ℕ) → integer_size (Some (n, next)) ≡ size_for (integer (pos n))
 unfolding integer_size scalar_bytes integer_bytes units_for
 integer_size_law n next = go (ltb n (2 ^ 63)) refl
   where
-    go : (b : Bool) → ltb n (2 ^ 63) ≡ b → integer_size (Of n next) ≡ size_for (integer (pos n))
+    go : (b : Bool) → ltb n (2 ^ 63) ≡ b → integer_size (Some (n, next)) ≡ size_for (integer (pos n))
     go true e = rw (e, length_number_law)
     go false e = rw (e, length_bytes_of)
 
-uid_size_law : (n next : ℕ) → uid_size (Of n next) ≡ size_for (uid n)
+uid_size_law : (n next : ℕ) → uid_size (Some (n, next)) ≡ size_for (uid n)
 unfolding uid_size scalar_bytes units_for
 uid_size_law n next = rw length_bytes_of (ap bytes_alone (omega arith))
 
@@ -76,7 +74,7 @@ module _ (tape : List ℕ) (k at : ℕ) where
   unfolding size_behind
   behind_nine h g = rw (le-leb 0x01 k (omega arith), lt-leb k 0x02 (omega arith), le-leb 0x04 k h, le-leb k 0x06 (omega arith))
 
-  pub behind_none : (k < 1) ⊎ (7 ≤ k) → (k ≡ 0x07 → ⊥) → (k ≡ 0x08 → ⊥) → (k ≡ 0x09 → ⊥) → size_behind tape k at ≡ NoScalar
+  pub behind_none : (k < 1) ⊎ (7 ≤ k) → (k ≡ 0x07 → ⊥) → (k ≡ 0x08 → ⊥) → (k ≡ 0x09 → ⊥) → size_behind tape k at ≡ None
   unfolding size_behind
   behind_none (inl h) f g i = let e : k ≡ 0 = omega arith in rw e
   behind_none (inr h) f g i =
@@ -91,7 +89,7 @@ module _ (tape : List ℕ) (at : ℕ) where
   unfolding size_at
   size_of k h e = rw (lt-ltb at (length tape) h, e)
 
-  pub size_past : length tape ≤ at → size_at tape at ≡ NoScalar
+  pub size_past : length tape ≤ at → size_at tape at ≡ None
   unfolding size_at
   size_past h = rw (le-ltb at (length tape) h)
 
@@ -123,7 +121,7 @@ module _ (tape : List ℕ) (at : ℕ) where
     size_written (uid n) i h st = size_there st ∙ rw (number_there n h.0 st) (uid_size_law n next)
 
     -- the size of a scalar that is read at a place
-    pub size_scalar : (m : Meaning) → Bytes tape → read_at tape at ≡ event m next → IsScalar m → size_at tape at ≡ Found (record { bytes = length (scalar_bytes m); units = units_for m })
+    pub size_scalar : (m : Meaning) → Bytes tape → read_at tape at ≡ event m next → IsScalar m → size_at tape at ≡ Some (record { bytes = length (scalar_bytes m); units = units_for m })
     size_scalar m good e i =
         let w = reads_written tape at m next good e in
         size_written m i w.held w.stands

@@ -13,7 +13,6 @@ use number::be::write_be;
 use number::copy::write_bytes;
 use number::size::size_for;
 use tape::room::lacks_room;
-use tape::value::Value;
 use utf::changed::Changed;
 use utf::unchecked;
 
@@ -25,14 +24,14 @@ pub enum Put {
     NoScalar,
 }
 
-// The markers that a length stands in.
+// The markers that a length stands in, as they are for the length 0.
 #[derive(Clone, Copy)]
 pub enum Base {
-    Data,
-    Ascii,
-    Utf16,
-    Array,
-    Dictionary,
+    Data = 0x40,
+    Ascii = 0x50,
+    Utf16 = 0x60,
+    Array = 0xa0,
+    Dictionary = 0xd0,
 }
 
 // A number of so many bytes.
@@ -69,11 +68,11 @@ pub(crate) fn put_token(out: &mut [u8], token: u8) -> Put
 }
 
 // An integer at or above zero: from 2^63 on it takes 16 bytes.
-pub(crate) fn put_positive(out: &mut [u8], number: Value) -> Put
+pub(crate) fn put_positive(out: &mut [u8], number: Option<(u64, usize)>) -> Put
     ensures value { result ≡ scalar_of out.old (numbered positive number) }
     ensures out_after { out.new ≡ put_into out.old (numbered positive number) }
 {
-    let Value::Of(n, _) = number else {
+    let Some((n, _)) = number else {
         return Put::NoScalar;
     };
     if n < 0x8000_0000_0000_0000 {
@@ -84,21 +83,21 @@ pub(crate) fn put_positive(out: &mut [u8], number: Value) -> Put
 }
 
 // The integer -1 - n in two's complement.
-pub(crate) fn put_negative(out: &mut [u8], number: Value) -> Put
+pub(crate) fn put_negative(out: &mut [u8], number: Option<(u64, usize)>) -> Put
     ensures value { result ≡ scalar_of out.old (numbered negative number) }
     ensures out_after { out.new ≡ put_into out.old (numbered negative number) }
 {
-    let Value::Of(n, _) = number else {
+    let Some((n, _)) = number else {
         return Put::NoScalar;
     };
     put_marked(out, 0x13, 8, 0xffff_ffff_ffff_ffff - n)
 }
 
-pub(crate) fn put_uid(out: &mut [u8], number: Value) -> Put
+pub(crate) fn put_uid(out: &mut [u8], number: Option<(u64, usize)>) -> Put
     ensures value { result ≡ scalar_of out.old (numbered uid_bytes number) }
     ensures out_after { out.new ≡ put_into out.old (numbered uid_bytes number) }
 {
-    let Value::Of(n, _) = number else {
+    let Some((n, _)) = number else {
         return Put::NoScalar;
     };
     let size = size_for(n);
@@ -148,11 +147,11 @@ pub(crate) fn put_eight(out: &mut [u8], marker: u8, tape: &[u8], at: usize) -> P
 }
 
 // Data, or text that is ASCII: the number is its length.
-pub(crate) fn put_run(out: &mut [u8], base: Base, tape: &[u8], number: Value) -> Put
+pub(crate) fn put_run(out: &mut [u8], base: Base, tape: &[u8], number: Option<(u64, usize)>) -> Put
     ensures value { result ≡ scalar_of out.old (run_in tape.now (headed (base_of base)) number) }
     ensures out_after { out.new ≡ put_into out.old (run_in tape.now (headed (base_of base)) number) }
 {
-    let Value::Of(n, start) = number else {
+    let Some((n, start)) = number else {
         return Put::NoScalar;
     };
     if lacks_room(tape.len(), start, n as usize) {
@@ -162,14 +161,19 @@ pub(crate) fn put_run(out: &mut [u8], base: Base, tape: &[u8], number: Value) ->
     put_headed(out, base, &tape[start..end])
 }
 
-pub(crate) fn put_text(out: &mut [u8], units: usize, tape: &[u8], number: Value) -> Put
+pub(crate) fn put_text(
+    out: &mut [u8],
+    units: usize,
+    tape: &[u8],
+    number: Option<(u64, usize)>,
+) -> Put
     ensures value { result ≡ scalar_of out.old (text_in tape.now units number) }
     ensures out_after { out.new ≡ put_into out.old (text_in tape.now units number) }
 {
     if units == 0 {
         return put_run(out, Base::Ascii, tape, number);
     }
-    let Value::Of(n, start) = number else {
+    let Some((n, start)) = number else {
         return Put::NoScalar;
     };
     if lacks_room(tape.len(), start, n as usize) {
@@ -212,19 +216,15 @@ fn put_utf16(out: &mut [u8], units: usize, text: &[u8]) -> Put
 }
 
 // The marker of length 0.
+#[tactic(auto, unfolding(crate::specs::Put::base_of))]
 fn marker_of(base: Base) -> u8
     ensures { result ≡ base_of base }
 {
-    match base {
-        Base::Data => 0x40,
-        Base::Ascii => 0x50,
-        Base::Utf16 => 0x60,
-        Base::Array => 0xa0,
-        Base::Dictionary => 0xd0,
-    }
+    base as u8
 }
 
 // The marker of an integer of so many bytes.
+#[tactic(auto, unfolding(written::specs::Encoding::size_marker))]
 fn size_marker(size: usize) -> u8
     ensures { result ≡ size_marker size }
 {

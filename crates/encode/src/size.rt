@@ -5,7 +5,7 @@ ghost use Rattle.tape.specs.Value.{number_at};
 
 use number::size::size_for;
 use tape::room::lacks_room;
-use tape::value::{Value, number_at};
+use tape::value::number_at;
 use utf::unchecked;
 use utf::utf8::is_ascii;
 
@@ -14,13 +14,6 @@ use utf::utf8::is_ascii;
 pub struct Size {
     pub bytes: usize,
     pub units: usize,
-}
-
-// That, or that no scalar stands there.
-#[derive(Clone, Copy)]
-pub enum Sized {
-    Found(Size),
-    NoScalar,
 }
 
 // A marker, and behind it a length that the marker doesn't hold.
@@ -34,44 +27,37 @@ pub fn head_size(length: usize) -> usize
 }
 
 // All but text in UTF-16 has no units.
-pub(crate) fn bytes_alone(bytes: usize) -> Sized
+pub(crate) fn bytes_alone(bytes: usize) -> Option<Size>
     ensures { result ≡ bytes_alone bytes }
 {
-    Sized::Found(Size { bytes, units: 0 })
+    Some(Size { bytes, units: 0 })
 }
 
-// An integer at or above zero; from 2^63 on it takes 16 bytes.
-pub(crate) fn integer_size(number: Value) -> Sized
+// An integer at or above zero: a marker and the number, as of a UID; from 2^63 on it takes 16 bytes.
+pub(crate) fn integer_size(number: Option<(u64, usize)>) -> Option<Size>
     ensures { result ≡ integer_size number }
 {
-    let Value::Of(n, _) = number else {
-        return Sized::NoScalar;
-    };
-    if n < 0x8000_0000_0000_0000 {
-        return bytes_alone(1 + size_for(n));
+    match number {
+        Some((n, _)) if 0x8000_0000_0000_0000 <= n => bytes_alone(17),
+        _ => uid_size(number),
     }
-    bytes_alone(17)
 }
 
-pub(crate) fn uid_size(number: Value) -> Sized
+pub(crate) fn uid_size(number: Option<(u64, usize)>) -> Option<Size>
     ensures { result ≡ uid_size number }
 {
-    let Value::Of(n, _) = number else {
-        return Sized::NoScalar;
-    };
+    let (n, _) = number?;
     bytes_alone(1 + size_for(n))
 }
 
 // Data, which must lie within the tape.
-pub(crate) fn data_size(end: usize, length: Value) -> Sized
+pub(crate) fn data_size(end: usize, length: Option<(u64, usize)>) -> Option<Size>
     requires { end < 2 ^ 63 }
     ensures { result ≡ data_size end length }
 {
-    let Value::Of(n, start) = length else {
-        return Sized::NoScalar;
-    };
+    let (n, start) = length?;
     if lacks_room(end, start, n as usize) {
-        return Sized::NoScalar;
+        return None;
     }
     bytes_alone(run_size(n as usize))
 }
@@ -85,21 +71,19 @@ fn run_size(length: usize) -> usize
 }
 
 // Text, which must lie within the tape.
-pub(crate) fn text_size(tape: &[u8], at: usize) -> Sized
+pub(crate) fn text_size(tape: &[u8], at: usize) -> Option<Size>
     ensures { result ≡ text_size tape.now (number_at tape.now at) }
 {
-    let Value::Of(n, start) = number_at(tape, at) else {
-        return Sized::NoScalar;
-    };
+    let (n, start) = number_at(tape, at)?;
     if lacks_room(tape.len(), start, n as usize) {
-        return Sized::NoScalar;
+        return None;
     }
     let end = start + n as usize;
     part_size(&tape[start..end])
 }
 
 // A text's own bytes, where they are ASCII, else its units. UTF-8 has no more units than bytes.
-fn part_size(text: &[u8]) -> Sized
+fn part_size(text: &[u8]) -> Option<Size>
     requires { length text.now + 5 < 2 ^ 63 }
     ensures { result ≡ part_size text.now }
 {
@@ -108,9 +92,9 @@ fn part_size(text: &[u8]) -> Sized
     }
     let units = unchecked::units_in(text);
     if text.len() < units {
-        return Sized::NoScalar;
+        return None;
     }
-    Sized::Found(Size {
+    Some(Size {
         bytes: head_size(units) + units * 2,
         units,
     })

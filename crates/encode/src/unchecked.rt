@@ -7,15 +7,15 @@ ghost use Rattle.encode.specs.Size.{size_at};
 use crate::put::{
     Base, Put, put_eight, put_negative, put_positive, put_run, put_text, put_token, put_uid,
 };
-use crate::size::{Sized, bytes_alone, data_size, integer_size, text_size, uid_size};
+use crate::size::{Size, bytes_alone, data_size, integer_size, text_size, uid_size};
 use tape::value::number_at;
 
 // The size of the scalar at a place of a tape. A real or a date need not be whole.
-pub fn size_of(tape: &[u8], at: usize) -> Sized
+pub fn size_of(tape: &[u8], at: usize) -> Option<Size>
     ensures { size_said at result ≡ size_said at (size_at tape.now at) }
 {
     if tape.len() <= at {
-        return Sized::NoScalar;
+        return None;
     }
     let next = at + 1;
     match tape[at] {
@@ -25,7 +25,7 @@ pub fn size_of(tape: &[u8], at: usize) -> Sized
         0x07 => uid_size(number_at(tape, next)),
         0x08 => data_size(tape.len(), number_at(tape, next)),
         0x09 => text_size(tape, next),
-        _ => Sized::NoScalar,
+        _ => None,
     }
 }
 

@@ -11,6 +11,6 @@ unfolding number.computed
     Ieee.nan_bits Ieee.is_nan Ieee.of_bits Ieee.to_bits
     Date.is_date
     Format.magic
-    Meaning.meaning_of Meaning.value_of Meaning.given_of
+    Meaning.meaning_of Meaning.value_of
     Real.real_of Real.float_bits
 computed = tt

@@ -1,13 +1,10 @@
 -- What an event means. The reader's records, the tape's items and the writer's objects all mean one of these.
-use Rattle.std.specs.Prelude.{Bool, List, ℕ, ℤ, pos}
-use Rattle.std.proofs.Math.Option.{Option, none, some}
+use Rattle.std.specs.Prelude.{Bool, List, ℕ, ℤ, pos, None, Some, Option}
 use Rattle.event.specs.Real.{float_bits}
 use Rattle.event.specs.declared.Event.{Event}
 use Rattle.event.specs.declared.Event.TheVariants.{StartArray, StartDictionary, EndCollection, Boolean, Data, Date, Integer as IntegerEvent, Real, Nan, String, Uid}
 use Rattle.event.specs.declared.Integer.{Integer}
 use Rattle.event.specs.declared.Integer.TheVariants.{Signed, Unsigned}
-use Rattle.event.specs.declared.Length.{Length}
-use Rattle.event.specs.declared.Length.TheVariants.{Given, NotGiven}
 
 -- reals and dates by their 64 bits, text and data by their bytes, containers with their length where it is given
 pub data Meaning : Type 0 where
@@ -27,14 +24,10 @@ unfoldable pub value_of : Integer → ℤ
 value_of (Signed z) = z
 value_of (Unsigned n) = pos n
 
-unfoldable pub given_of : Length → Option ℕ
-given_of (Given n) = some n
-given_of NotGiven = none
-
 -- what an event means, beside which the bytes of its data or text stand
 unfoldable pub meaning_of : Event → List ℕ → Meaning
-meaning_of (StartArray n) s = array (given_of n)
-meaning_of (StartDictionary n) s = dictionary (given_of n)
+meaning_of (StartArray n) s = array n
+meaning_of (StartDictionary n) s = dictionary n
 meaning_of EndCollection s = close
 meaning_of (Boolean b) s = boolean b
 meaning_of Data s = bytes s

@@ -1,22 +1,19 @@
 -- Two events are the same exactly where they mean the same, the same bytes beside them.
-use Rattle.std.specs.Prelude.{Bool, true, false, ◌&&◌, List, [], ◌∷◌, ◌≡◌, refl, ℕ, ◌<◌, eqb, ℤ, pos, negsuc, get_or}
+use Rattle.std.specs.Prelude.{Bool, true, false, ◌&&◌, List, [], ◌∷◌, ◌≡◌, refl, ℕ, ◌<◌, eqb, ℤ, pos, negsuc, get_or, None, Option, Some}
 use Rattle.std.proofs.lemmas.Bool.{false≢true}
-use Rattle.std.proofs.Math.Option.{none, some}
 use Rattle.std.proofs.Common.{sym, ap, ap₂, ◌∙◌, arith, eqb-true, eq-eqb, ltb-true}
 use Rattle.std.specs.Int.Signed.{lt_z}
 use Rattle.number.specs.Signed.{magnitude_of}
-use Rattle.event.specs.Meaning.{Meaning, array, dictionary, close, boolean, bytes, date, integer, real, text, uid, value_of, given_of, meaning_of}
+use Rattle.event.specs.Meaning.{Meaning, array, dictionary, close, boolean, bytes, date, integer, real, text, uid, value_of, meaning_of}
 use Rattle.event.specs.Same.{key, key_of, start_key, same}
 use Rattle.event.specs.declared.Event.{Event}
 use Rattle.event.specs.declared.Event.TheVariants.{StartArray, StartDictionary, EndCollection, Boolean, Data, Date, Integer as IntegerEvent, Real, Nan, String, Uid}
-use Rattle.event.specs.declared.Length.{Length}
-use Rattle.event.specs.declared.Length.TheVariants.{Given, NotGiven}
 use Rattle.event.specs.declared.same.Key.{Key}
 
 -- the meaning of a key, in the order of the kinds from 01 on
 meanings : ℕ → List Meaning
 meanings n =
-    boolean false ∷ boolean true ∷ integer (pos n) ∷ integer (negsuc n) ∷ real n ∷ date n ∷ uid n ∷ bytes [] ∷ text [] ∷ array none ∷ array (some n) ∷ dictionary none ∷ dictionary (some n) ∷ []
+    boolean false ∷ boolean true ∷ integer (pos n) ∷ integer (negsuc n) ∷ real n ∷ date n ∷ uid n ∷ bytes [] ∷ text [] ∷ array None ∷ array (Some n) ∷ dictionary None ∷ dictionary (Some n) ∷ []
 
 meaning_from : Key → Meaning
 meaning_from k = get_or (close ∷ meanings k.number) k.kind close
@@ -27,11 +24,11 @@ integer_again (pos n) = refl
 integer_again (negsuc k) = refl
 
 again : (e : Event) → meaning_from (key_of (meaning_of e [])) ≡ meaning_of e []
-unfolding key_of meaning_of given_of meaning_from meanings
-again (StartArray (Given n)) = refl
-again (StartArray NotGiven) = refl
-again (StartDictionary (Given n)) = refl
-again (StartDictionary NotGiven) = refl
+unfolding key_of meaning_of meaning_from meanings
+again (StartArray (Some n)) = refl
+again (StartArray None) = refl
+again (StartDictionary (Some n)) = refl
+again (StartDictionary None) = refl
 again EndCollection = refl
 again (Boolean true) = refl
 again (Boolean false) = refl
@@ -74,12 +71,12 @@ key_above (pos n) e = refl
 key_above (negsuc k) e = absurd (false≢true (sym e))
 
 -- the key of a container's start
-pub start_array : (n : Length) → start_key 0x0A n ≡ key_of (array (given_of n))
-unfolding start_key key_of given_of
-start_array (Given n) = refl
-start_array NotGiven = refl
+pub start_array : (n : Option ℕ) → start_key 0x0A n ≡ key_of (array n)
+unfolding start_key key_of
+start_array (Some n) = refl
+start_array None = refl
 
-pub start_dictionary : (n : Length) → start_key 0x0C n ≡ key_of (dictionary (given_of n))
-unfolding start_key key_of given_of
-start_dictionary (Given n) = refl
-start_dictionary NotGiven = refl
+pub start_dictionary : (n : Option ℕ) → start_key 0x0C n ≡ key_of (dictionary n)
+unfolding start_key key_of
+start_dictionary (Some n) = refl
+start_dictionary None = refl

@@ -1,10 +1,10 @@
 -- Events without given lengths: two that differ in a given length alone are the same.
-use Rattle.std.proofs.Math.Option.{none}
+use Rattle.std.specs.Prelude.{None}
 use Rattle.event.specs.Meaning.{Meaning, array, dictionary, close, boolean, bytes, date, integer, real, text, uid}
 
 unfoldable pub unmeasured : Meaning → Meaning
-unmeasured (array n) = array none
-unmeasured (dictionary n) = dictionary none
+unmeasured (array n) = array None
+unmeasured (dictionary n) = dictionary None
 unmeasured close = close
 unmeasured (boolean b) = boolean b
 unmeasured (bytes s) = bytes s

@@ -13,19 +13,12 @@ pub enum Integer {
     Unsigned(u64),
 }
 
-// How many elements or pairs a container has, where that is known at its start.
-#[derive(Clone, Copy)]
-pub enum Length {
-    Given(u64),
-    NotGiven,
-}
-
 // Data and text carry no bytes: where those stand is said beside the event. A real that is a number is Real; the bits of one
 // that isn't are Nan, since the language has one NaN only.
 #[derive(Clone, Copy)]
 pub enum Event {
-    StartArray(Length),
-    StartDictionary(Length),
+    StartArray(Option<u64>),
+    StartDictionary(Option<u64>),
     EndCollection,
     Boolean(bool),
     Data,

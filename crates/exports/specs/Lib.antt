@@ -1,5 +1,6 @@
 pub mod Codes
 pub mod CodesLaws
+pub mod Computed
 pub mod Date
 pub mod DateLaws
 pub mod TapeAppend

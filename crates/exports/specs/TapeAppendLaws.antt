@@ -1,6 +1,5 @@
 -- What the number of an append's answer stands for: how many bytes are held, or one of the three refusals; no tape is as long as 2^63.
-use Rattle.std.specs.Prelude.{Bool, true, false, cond, List, ◌≡◌, refl, ℕ, ◌+◌, ◌≤◌, leb, eqb, length}
-use Rattle.std.proofs.Math.Option.{Option, none, some}
+use Rattle.std.specs.Prelude.{Bool, true, false, cond, List, ◌≡◌, refl, ℕ, ◌+◌, ◌≤◌, leb, eqb, length, None, Option, Some}
 use Rattle.std.proofs.Common.{sym, ap, ◌∙◌, arith, leb-true, ne_eqb}
 use Rattle.event.specs.Meaning.{Meaning}
 use Rattle.tape.specs.Append.{Said, held, refused, fits, put_of, append_of}
@@ -10,26 +9,26 @@ use Rattle.exports.specs.TapeAppend.{held_number, append_number}
 
 -- what the tape says of a meaning, if there is one
 unfoldable pub append_said : List ℕ → ℕ → Option Meaning → Option Said
-append_said tape at (some m) = some (append_of tape at m)
-append_said tape at none = none
+append_said tape at (Some m) = Some (append_of tape at m)
+append_said tape at None = None
 
 -- the answer that a number stands for, of an event that would begin at a place
 unfoldable pub append_from : ℕ → ℕ → Option Said
 append_from at n =
-    cond (eqb n 0xFFFFFFFFFFFFFFFF) (some (refused 20 at))
-    (cond (eqb n 0xFFFFFFFFFFFFFFFE) (some (refused 27 at))
-    (cond (eqb n 0xFFFFFFFFFFFFFFFD) none
-    (some (held n))))
+    cond (eqb n 0xFFFFFFFFFFFFFFFF) (Some (refused 20 at))
+    (cond (eqb n 0xFFFFFFFFFFFFFFFE) (Some (refused 27 at))
+    (cond (eqb n 0xFFFFFFFFFFFFFFFD) None
+    (Some (held n))))
 
 -- the number tells the answer
 pub append_again : (tape : List ℕ) (at : ℕ) (m : Option Meaning) → Lent tape → append_from at (append_number tape at m) ≡ append_said tape at m
 unfolding append_from append_number append_said held_number append_of put_of fits
-append_again tape at none h = refl
-append_again tape at (some m) h = go (allowed m) (leb (at + length (bytes_for m)) (length tape)) refl
+append_again tape at None h = refl
+append_again tape at (Some m) h = go (allowed m) (leb (at + length (bytes_for m)) (length tape)) refl
   where
     go : (a b : Bool) → leb (at + length (bytes_for m)) (length tape) ≡ b →
         append_from at (held_number (cond a (cond b (held (at + length (bytes_for m))) (refused 27 at)) (refused 20 at))) ≡
-        some (cond a (cond b (held (at + length (bytes_for m))) (refused 27 at)) (refused 20 at))
+        Some (cond a (cond b (held (at + length (bytes_for m))) (refused 27 at)) (refused 20 at))
     go false b e = refl
     go true false e = refl
     go true true e =

@@ -2,6 +2,7 @@
 #![tactic(auto)]
 
 pub mod date;
+pub mod numbers;
 pub mod tape_append;
 pub mod tape_step;
 pub mod text;

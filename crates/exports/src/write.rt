@@ -1,11 +1,10 @@
 // A file written from a tape, with the answer as numbers.
 ghost use Rattle.std.specs.Prelude.{◌≡◌, length, drop};
 ghost use Rattle.number.specs.BeLaws.{Bytes};
-ghost use Rattle.grammar.specs.Said.{kinds_of};
 ghost use Rattle.writer.specs.Write.{written_said, write_of, output_of, used_of};
-ghost use Rattle.exports.specs.Write.{kind_number, first_number, second_number, write_code, write_value, expected_number, found_number};
+ghost use Rattle.exports.specs.Write.{write_code, write_value, expected_number, found_number, written_numbers};
 
-use grammar::answer::{EventKind, Refusal, number_of};
+use crate::numbers::Numbers;
 use writer::answer::Written;
 use writer::write_file;
 
@@ -28,102 +27,22 @@ pub extern "C" fn zm_write(
     ensures work_unchanged { drop (used_of tape.now (length work.old)) work.new ≡ drop (used_of tape.now (length work.old)) work.old }
     ensures bytes { Bytes tape.now }
 {
-    let written = write_file(tape, work, out);
-    *value = write_value(written);
-    *expected = expected_number(written);
-    *found = found_number(written);
-    write_code(written)
+    let numbers = written_numbers(write_file(tape, work, out));
+    *value = numbers.place;
+    *expected = numbers.expected;
+    *found = numbers.found;
+    numbers.code
 }
 
-pub fn write_code(written: Written) -> u32
-    ensures { result ≡ write_code (written_said written) }
+#[tactic(auto, unfolding(crate::specs::Computed::written))]
+pub fn written_numbers(written: Written) -> Numbers
+    ensures { result ≡ written_numbers (written_said written) }
 {
     match written {
-        Written::Length(_) => 0,
-        Written::Refused(refusal, _) => number_of(refusal),
-        Written::NoRoomForWork => 24,
-        Written::NoRoomForOutput => 25,
-        Written::FileTooLong => 26,
-    }
-}
-
-pub fn write_value(written: Written) -> u64
-    ensures { result ≡ write_value (written_said written) }
-{
-    match written {
-        Written::Length(n) => n as u64,
-        Written::Refused(_, place) => place,
-        Written::NoRoomForWork => 0,
-        Written::NoRoomForOutput => 0,
-        Written::FileTooLong => 0,
-    }
-}
-
-pub fn expected_number(written: Written) -> u32
-    ensures { result ≡ expected_number (written_said written) }
-{
-    match written {
-        Written::Length(_) => 0,
-        Written::Refused(refusal, _) => first_number(refusal),
-        Written::NoRoomForWork => 0,
-        Written::NoRoomForOutput => 0,
-        Written::FileTooLong => 0,
-    }
-}
-
-pub fn found_number(written: Written) -> u32
-    ensures { result ≡ found_number (written_said written) }
-{
-    match written {
-        Written::Length(_) => 0,
-        Written::Refused(refusal, _) => second_number(refusal),
-        Written::NoRoomForWork => 0,
-        Written::NoRoomForOutput => 0,
-        Written::FileTooLong => 0,
-    }
-}
-
-pub fn first_number(refusal: Refusal) -> u32
-    ensures { result ≡ first_number (kinds_of refusal) }
-{
-    match refusal {
-        Refusal::TooLong => 0,
-        Refusal::TooDeep => 0,
-        Refusal::BadTape => 0,
-        Refusal::UnexpectedEventType(expected, _) => kind_number(expected),
-        Refusal::IncompleteRoot => 0,
-        Refusal::TrailingEvents => 0,
-    }
-}
-
-pub fn second_number(refusal: Refusal) -> u32
-    ensures { result ≡ second_number (kinds_of refusal) }
-{
-    match refusal {
-        Refusal::TooLong => 0,
-        Refusal::TooDeep => 0,
-        Refusal::BadTape => 0,
-        Refusal::UnexpectedEventType(_, found) => kind_number(found),
-        Refusal::IncompleteRoot => 0,
-        Refusal::TrailingEvents => 0,
-    }
-}
-
-fn kind_number(kind: EventKind) -> u32
-    ensures { result ≡ kind_number kind }
-{
-    match kind {
-        EventKind::ValueOrStartCollection => 1,
-        EventKind::DictionaryKeyOrEndCollection => 2,
-        EventKind::StartArray => 3,
-        EventKind::StartDictionary => 4,
-        EventKind::EndCollection => 5,
-        EventKind::Boolean => 6,
-        EventKind::Data => 7,
-        EventKind::Date => 8,
-        EventKind::Integer => 9,
-        EventKind::Real => 10,
-        EventKind::String => 11,
-        EventKind::Uid => 12,
+        Written::Length(n) => Numbers::plain(0, n as u64),
+        Written::Refused(refusal, place) => Numbers::refused(refusal, place),
+        Written::NoRoomForWork => Numbers::plain(24, 0),
+        Written::NoRoomForOutput => Numbers::plain(25, 0),
+        Written::FileTooLong => Numbers::plain(26, 0),
     }
 }

@@ -1,7 +1,6 @@
 -- The calls of C one after the other: the file that finishes them is the writer's for the events that were taken.
-use Rattle.std.specs.Prelude.{Bool, true, false, cond, List, [], ◌∷◌, ◌++◌, ◌≡◌, refl, ℕ, ◌≤◌, length}
+use Rattle.std.specs.Prelude.{Bool, true, false, cond, List, [], ◌∷◌, ◌++◌, ◌≡◌, refl, ℕ, ◌≤◌, length, None, Option, Some}
 use Rattle.std.proofs.Common.{append-nil, arith, le-ltb}
-use Rattle.std.proofs.Math.Option.{Option, none, some}
 use Rattle.std.proofs.Math.Seq.{length-sets}
 use Rattle.event.specs.Meaning.{Meaning}
 use Rattle.tape.specs.BytesLaws.{Sound}
@@ -26,8 +25,8 @@ pub record Called : Type 0 where
 
 -- the event of a call, where it was taken
 unfoldable pub taken_of : Said → Option Meaning → List Meaning
-taken_of (holds n) (some m) = m ∷ []
-taken_of (holds n) none = []
+taken_of (holds n) (Some m) = m ∷ []
+taken_of (holds n) None = []
 taken_of (refused number kinds place) m = []
 
 -- calls of `zm_build` one after the other, on words and a tape that nobody else alters
@@ -61,7 +60,7 @@ module _ (words tape : List ℕ) (ms : List Meaning) (k : Kept words tape ms) wh
   same = rw (append-nil ms) k
 
   kept_some : (m : Meaning) → Lent tape → Sound m → (s : Said) → build_of (builder_in words) (length tape) m ≡ s
-      → Kept (words_by s words (builder_after (builder_in words) (length tape) m)) (tape_after (builder_in words) tape m) (ms ++ taken_of s (some m))
+      → Kept (words_by s words (builder_after (builder_in words) (length tape) m)) (tape_after (builder_in words) tape m) (ms ++ taken_of s (Some m))
   unfolding words_by taken_of tape_after tape_by
   kept_some m l sound (refused n ks p) e = rw e same
   kept_some m l sound (holds n) e =
@@ -72,11 +71,11 @@ module _ (words tape : List ℕ) (ms : List Meaning) (k : Kept words tape ms) wh
 
   pub kept_called : (m : Option Meaning) → Handed tape m → Kept (called_words words (length tape) m) (called_tape words tape m) (ms ++ taken_of (call_of words (length tape) m) m)
   unfolding called_words called_tape call_of meant_words meant_tape meant_call taken_of
-  kept_called none h = rw (few_not words k.enough) same
-  kept_called (some m) h = rw (few_not words k.enough) (kept_some m h.0 h.1 (build_of (builder_in words) (length tape) m) refl)
+  kept_called None h = rw (few_not words k.enough) same
+  kept_called (Some m) h = rw (few_not words k.enough) (kept_some m h.0 h.1 (build_of (builder_in words) (length tape) m) refl)
 
   -- its answer is what the check says of the events with this one behind them
-  pub called_checks : (m : Meaning) → Sound m → call_of words (length tape) (some m) ≡ answer_by (check_of (tape_of ms ++ bytes_for m)) (fitted_of (builder_in words).held (length (bytes_for m)) (length tape))
+  pub called_checks : (m : Meaning) → Sound m → call_of words (length tape) (Some m) ≡ answer_by (check_of (tape_of ms ++ bytes_for m)) (fitted_of (builder_in words).held (length (bytes_for m)) (length tape))
   unfolding call_of meant_call
   called_checks m sound = rw (few_not words k.enough) (build_checks (builder_in words) tape m ms k.stands sound)
 
@@ -103,8 +102,8 @@ length_called words tape m = go (few_words words) m
   where
     go : (x : Bool) (m : Option Meaning) → length (cond x tape (meant_tape (builder_in words) tape m)) ≡ length tape
     go true m = refl
-    go false none = refl
-    go false (some m) = length_by (build_of (builder_in words) (length tape) m) tape (builder_in words).held (bytes_for m)
+    go false None = refl
+    go false (Some m) = length_by (build_of (builder_in words) (length tape) m) tape (builder_in words).held (bytes_for m)
 
 -- all calls
 pub kept_calls : (words tape : List ℕ) (ms : List Meaning) (os : List (Option Meaning)) → Kept words tape ms → Lent tape → AllSound os → let r = calls_from words tape ms os in Kept r.words r.tape r.events

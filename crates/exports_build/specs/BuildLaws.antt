@@ -1,7 +1,6 @@
 -- What the numbers of a builder's answers stand for: one answer alone. 0 is no refusal, 251 and 252 are none of table N.
-use Rattle.std.specs.Prelude.{Bool, cond, List, [], ◌≡◌, ℕ, ◌+◌, ◌^◌, ◌<◌, leb, eqb, length, take}
+use Rattle.std.specs.Prelude.{Bool, cond, List, [], ◌≡◌, ℕ, ◌+◌, ◌^◌, ◌<◌, leb, eqb, length, take, None, Option, Some}
 use Rattle.std.proofs.Math.Bool.{true, false}
-use Rattle.std.proofs.Math.Option.{Option, none, some}
 use Rattle.std.proofs.Math.Path.{refl}
 use Rattle.std.proofs.Common.{sym, ap, ◌∙◌, arith, ltb-true, ne_eqb}
 use Rattle.std.proofs.Math.Dec.{ltb}
@@ -27,7 +26,7 @@ use Rattle.exports_build.specs.Build.{numbers_by, written_numbers, meant_call, c
 use Rattle.exports.specs.TapeAppend.{negative_for, meaning_for}
 use Rattle.exports.specs.Write.{first_number, second_number, write_code, write_value, expected_number, found_number}
 use Rattle.exports.specs.WriteLaws.{kinds_from, write_from, Told, check_told, write_told}
-use Rattle.exports_build.specs.declared.build.Numbers.{Numbers}
+use Rattle.exports.specs.declared.numbers.Numbers.{Numbers}
 
 -- no refusal of table N is one of the two
 pub not_251 : (n : ℕ) → Listed n → (n ≡ 251 → ⊥) × (n ≡ 252 → ⊥)
@@ -97,8 +96,8 @@ call_told words room m = go (few_words words) m
   where
     go : (x : Bool) (m : Option Meaning) → ToldCall (cond x (refused 252 [] 0) (meant_call (builder_in words) room m))
     go true m = bare 252 (λ e. omega arith) refl
-    go false none = bare 251 (λ e. omega arith) refl
-    go false (some m) = build_told (builder_in words) room m
+    go false None = bare 251 (λ e. omega arith) refl
+    go false (Some m) = build_told (builder_in words) room m
 
 pub finish_told : (words tape : List ℕ) (work room : ℕ) → ToldFile (finish_call words tape work room)
 unfolding finish_call finish_of
@@ -150,7 +149,7 @@ module _ (n : ℕ) (s : List ℕ) (fits : n < 2 ^ 64) (short : length s < 2 ^ 64
       (either (eqb kind 0x0B) _ _ (fits, tt)
       (either (eqb kind 0x0C) _ _ (tt, tt)
       (either (eqb kind 0x0D) _ _ (fits, tt)
-      (either (eqb kind 0x0E) _ none (tt, tt) tt)))))))))))))
+      (either (eqb kind 0x0E) _ None (tt, tt) tt)))))))))))))
 
 pub sound_for : (kind n : ℕ) (s : List ℕ) → n < 2 ^ 64 → length s < 2 ^ 64 → Bytes s → SoundFor (meaning_for kind n s)
 sound_for kind n s f l g = sound_by n s f l g kind

@@ -1,3 +1,4 @@
 pub mod Build
 pub mod BuildCallsLaws
 pub mod BuildLaws
+pub mod Computed

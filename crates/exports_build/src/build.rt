@@ -2,7 +2,7 @@
 ghost use Rattle.std.specs.Prelude.{◌≡◌, length, drop};
 ghost use Rattle.builder.specs.Build.{answer_said};
 ghost use Rattle.builder.specs.Finish.{finished_said};
-ghost use Rattle.exports_build.specs.Build.{begin_code, begun_words, no_numbers, numbers_by, written_numbers, call_of, called_words, called_tape, words_by, finish_call, finished_output, finished_used, Handed};
+ghost use Rattle.exports_build.specs.Build.{begin_code, begun_words, numbers_by, written_numbers, call_of, called_words, called_tape, words_by, finish_call, finished_output, finished_used, Handed};
 ghost use Rattle.exports.specs.TapeAppend.{meaning_for};
 
 use builder::answer::Answer;
@@ -10,20 +10,9 @@ use builder::build;
 use builder::finish::{Finished, finish};
 use builder::state::Builder;
 use builder::words::{WORDS, load, store};
-use exports::tape_append::{Chosen, event_for};
-use exports::write::{
-    expected_number, first_number, found_number, second_number, write_code, write_value,
-};
-use grammar::answer::number_of;
-
-// An answer as numbers: 0 or a refusal's number, how many bytes are held or the refusal's place, and the kinds that 21 names.
-#[derive(Clone, Copy)]
-pub(crate) struct Numbers {
-    pub code: u32,
-    pub place: u64,
-    pub expected: u32,
-    pub found: u32,
-}
+use exports::numbers::Numbers;
+use exports::tape_append::event_for;
+use exports::write::written_numbers;
 
 // The words become an empty builder: 0, or 252 where they are too few.
 #[unsafe(no_mangle)]
@@ -72,10 +61,10 @@ fn called(builder: &mut [u32], tape: &mut [u8], kind: u32, value: u64, bytes: &[
     ensures tape_after { tape.new ≡ called_tape builder.old tape.old (meaning_for kind value bytes.now) }
 {
     if builder.len() < WORDS {
-        return refused(252);
+        return Numbers::plain(252, 0);
     }
-    let Chosen::Event(event) = event_for(kind, value) else {
-        return refused(251);
+    let Some(event) = event_for(kind, value) else {
+        return Numbers::plain(251, 0);
     };
     let built = build::value(load(builder), tape, event, bytes);
     let answer = built.answer;
@@ -83,55 +72,20 @@ fn called(builder: &mut [u32], tape: &mut [u8], kind: u32, value: u64, bytes: &[
     answered(answer)
 }
 
-// A refusal that has no place.
-fn refused(code: u32) -> Numbers
-    ensures { result ≡ no_numbers code }
-{
-    Numbers {
-        code,
-        place: 0,
-        expected: 0,
-        found: 0,
-    }
-}
-
+#[tactic(auto, unfolding(crate::specs::Computed::answered))]
 fn answered(answer: Answer) -> Numbers
     ensures { result ≡ numbers_by (answer_said answer) }
 {
     match answer {
-        Answer::Held(n) => Numbers {
-            code: 0,
-            place: n as u64,
-            expected: 0,
-            found: 0,
-        },
-        Answer::Refused(refusal, place) => {
-            let code = number_of(refusal);
-            let expected = first_number(refusal);
-            let found = second_number(refusal);
-            Numbers {
-                code,
-                place,
-                expected,
-                found,
-            }
-        }
-        Answer::NoRoom(place) => Numbers {
-            code: 27,
-            place,
-            expected: 0,
-            found: 0,
-        },
-        Answer::TapeShrank => Numbers {
-            code: 32,
-            place: 0,
-            expected: 0,
-            found: 0,
-        },
+        Answer::Held(n) => Numbers::plain(0, n as u64),
+        Answer::Refused(refusal, place) => Numbers::refused(refusal, place),
+        Answer::NoRoom(place) => Numbers::plain(27, place),
+        Answer::TapeShrank => Numbers::plain(32, 0),
     }
 }
 
 // The words behind a call: those of the builder where the event was taken, else as they were.
+#[tactic(auto, unfolding(crate::specs::Build::words_by, builder::specs::Build::answer_said))]
 fn keep(words: &mut [u32], builder: Builder, answer: Answer)
     ensures { words.new ≡ words_by (answer_said answer) words.old builder }
 {
@@ -174,7 +128,7 @@ fn finished(builder: &[u32], tape: &[u8], work: &mut [u32], out: &mut [u8]) -> N
     ensures work_unchanged { drop (finished_used builder.now tape.now (length work.old)) work.new ≡ drop (finished_used builder.now tape.now (length work.old)) work.old }
 {
     if builder.len() < WORDS {
-        return refused(252);
+        return Numbers::plain(252, 0);
     }
     file_numbers(finish(load(builder), tape, work, out))
 }
@@ -183,16 +137,7 @@ fn file_numbers(finished: Finished) -> Numbers
     ensures { result ≡ written_numbers (finished_said finished) }
 {
     let Finished::Written(written) = finished else {
-        return refused(32);
+        return Numbers::plain(32, 0);
     };
-    let code = write_code(written);
-    let place = write_value(written);
-    let expected = expected_number(written);
-    let found = found_number(written);
-    Numbers {
-        code,
-        place,
-        expected,
-        found,
-    }
+    written_numbers(written)
 }

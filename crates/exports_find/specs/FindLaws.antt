@@ -1,6 +1,5 @@
 -- What the numbers of a lookup's answer stand for: one answer alone. 0 is a part, 254 that there is none, any other number is that of one refusal.
-use Rattle.std.specs.Prelude.{cond, List, ◌≡◌, refl, ℕ, eqb}
-use Rattle.std.proofs.Math.Option.{Option, none, some}
+use Rattle.std.specs.Prelude.{cond, List, ◌≡◌, refl, ℕ, eqb, None, Option, Some}
 use Rattle.std.proofs.Common.{sym, ◌∙◌, arith, ne_eqb}
 use Rattle.event.specs.Meaning.{Meaning}
 use Rattle.event.specs.Numbers.{refusal_numbers, Listed}
@@ -42,12 +41,12 @@ unfolding find_of by_check by_path placed checked_said refused_at kinds_from ref
 find_told tape path = go (check_said tape).0 (check_said tape).1
   where
     at : (o : Option (List Meaning)) → Told (placed tape o)
-    at none = tt
-    at (some ms) = tt
+    at None = tt
+    at (Some ms) = tt
 
     by : (o : Option (List (List ℕ))) → Told (by_path tape o (meanings_in tape))
-    by none = (refl, refl)
-    by (some keys) = at (from_path keys (meanings_in tape))
+    by None = (refl, refl)
+    by (Some keys) = at (from_path keys (meanings_in tape))
 
     go : (c : Checked) → check_of tape ≡ checked_said c → Told (by_check (check_of tape) tape (keys_of path))
     go (checked.Whole n) e = rw e (by (keys_of path))

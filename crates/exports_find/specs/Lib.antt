@@ -1,3 +1,4 @@
+pub mod Computed
 pub mod Find
 pub mod FindLaws
 pub mod PathAppend

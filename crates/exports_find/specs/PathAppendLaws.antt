@@ -1,6 +1,5 @@
 -- What the number of an added key's answer stands for: how many bytes are held, or one of two answers; no slice is as long as 2^63.
-use Rattle.std.specs.Prelude.{Bool, true, false, cond, List, [], ◌∷◌, ◌++◌, ◌≡◌, refl, ℕ, ◌+◌, ◌≤◌, leb, eqb, length}
-use Rattle.std.proofs.Math.Option.{Option, none, some}
+use Rattle.std.specs.Prelude.{Bool, true, false, cond, List, [], ◌∷◌, ◌++◌, ◌≡◌, refl, ℕ, ◌+◌, ◌≤◌, leb, eqb, length, None, Option, Some}
 use Rattle.std.proofs.Common.{sym, ap, ◌∙◌, arith, leb-true, ne_eqb}
 use Rattle.tape.specs.Append.{fits}
 use Rattle.lookup.specs.Append.{held_keys, added_in, added_by, added_of}
@@ -26,8 +25,8 @@ added_again memory held key lent = by (held_keys memory held)
         rw (ne_eqb (length s) 0xFFFFFFFFFFFFFFFF (λ f. omega arith), ne_eqb (length s) 0xFFFFFFFFFFFFFFFE (λ f. omega arith))
 
     by : (o : Option (List (List ℕ))) → added_from (added_number (added_by memory key o)) ≡ added_by memory key o
-    by none = refl
-    by (some keys) = room (path_of (keys ++ (key ∷ []))) (leb (0 + length (path_of (keys ++ (key ∷ [])))) (length memory)) refl
+    by None = refl
+    by (Some keys) = room (path_of (keys ++ (key ∷ []))) (leb (0 + length (path_of (keys ++ (key ∷ [])))) (length memory)) refl
 
 pub added_one : (s t : List ℕ) (i j : ℕ) (k l : List ℕ) → Lent s → Lent t → added_number (added_of s i k) ≡ added_number (added_of t j l) → added_of s i k ≡ added_of t j l
 added_one s t i j k l f g e = sym (added_again s i k f) ∙ ap added_from e ∙ added_again t j l g

@@ -4,8 +4,7 @@ ghost use Rattle.number.specs.BeLaws.{Bytes};
 ghost use Rattle.lookup.specs.Find.{found_said, find_of};
 ghost use Rattle.exports_find.specs.Find.{find_code, find_start, find_length, find_expected, find_found};
 
-use exports::write::{first_number, second_number};
-use grammar::answer::number_of;
+use exports::numbers::Numbers;
 use lookup::answer::Found;
 use lookup::find::find;
 
@@ -27,65 +26,27 @@ pub extern "C" fn zm_find(
     ensures found_after { found.new ≡ find_found (find_of tape.now path.now) }
     ensures bytes { Bytes tape.now }
 {
-    let answer = find(tape, path);
-    *start = start_number(answer);
-    *length = length_number(answer);
-    *expected = expected_number(answer);
-    *found = found_number(answer);
-    find_code(answer)
+    let (numbers, n) = found_numbers(find(tape, path));
+    *start = numbers.place;
+    *length = n;
+    *expected = numbers.expected;
+    *found = numbers.found;
+    numbers.code
 }
 
-fn find_code(answer: Found) -> u32
-    ensures { result ≡ find_code (found_said answer) }
+// With the length of the part that is found.
+#[tactic(auto, unfolding(crate::specs::Computed::found))]
+fn found_numbers(answer: Found) -> (Numbers, u64)
+    ensures code { result.0.code ≡ find_code (found_said answer) }
+    ensures start { result.0.place ≡ find_start (found_said answer) }
+    ensures length { result.1 ≡ find_length (found_said answer) }
+    ensures expected { result.0.expected ≡ find_expected (found_said answer) }
+    ensures found { result.0.found ≡ find_found (found_said answer) }
 {
     match answer {
-        Found::Part(_, _) => 0,
-        Found::Nowhere => 254,
-        Found::Refused(refusal, _) => number_of(refusal),
-        Found::BadPath => 33,
-    }
-}
-
-fn start_number(answer: Found) -> u64
-    ensures { result ≡ find_start (found_said answer) }
-{
-    match answer {
-        Found::Part(start, _) => start as u64,
-        Found::Nowhere => 0,
-        Found::Refused(_, place) => place,
-        Found::BadPath => 0,
-    }
-}
-
-fn length_number(answer: Found) -> u64
-    ensures { result ≡ find_length (found_said answer) }
-{
-    match answer {
-        Found::Part(_, length) => length as u64,
-        Found::Nowhere => 0,
-        Found::Refused(_, _) => 0,
-        Found::BadPath => 0,
-    }
-}
-
-fn expected_number(answer: Found) -> u32
-    ensures { result ≡ find_expected (found_said answer) }
-{
-    match answer {
-        Found::Part(_, _) => 0,
-        Found::Nowhere => 0,
-        Found::Refused(refusal, _) => first_number(refusal),
-        Found::BadPath => 0,
-    }
-}
-
-fn found_number(answer: Found) -> u32
-    ensures { result ≡ find_found (found_said answer) }
-{
-    match answer {
-        Found::Part(_, _) => 0,
-        Found::Nowhere => 0,
-        Found::Refused(refusal, _) => second_number(refusal),
-        Found::BadPath => 0,
+        Found::Part(start, length) => (Numbers::plain(0, start as u64), length as u64),
+        Found::Nowhere => (Numbers::plain(254, 0), 0),
+        Found::Refused(refusal, place) => (Numbers::refused(refusal, place), 0),
+        Found::BadPath => (Numbers::plain(33, 0), 0),
     }
 }

@@ -17,6 +17,7 @@ pub extern "C" fn zm_path_append(path: &mut [u8], held: usize, key: &[u8]) -> u6
     added_number(append_key(path, held, key))
 }
 
+#[tactic(auto, unfolding(crate::specs::PathAppend::added_number))]
 fn added_number(added: Added) -> u64
     ensures { result ≡ added_number added }
 {

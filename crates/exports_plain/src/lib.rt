@@ -28,45 +28,46 @@ pub extern "C" fn zm_read_plainly(
     ensures tape_after { tape.new ≡ (plain_tape budget file.now tape.old).tape }
 {
     let reading = read_plainly(file, tape, budget);
-    let ending = reading.ending;
+    let end = end_of(reading.ending);
     *held = reading.held as u64;
-    *place = end_place(ending);
-    *marker = end_marker(ending);
-    end_code(ending)
+    *place = end.place;
+    *marker = end.marker;
+    end.code
 }
 
-// 0 for the file's end, else the refusal's number.
-fn end_code(ending: Ending) -> u32
-    ensures { result ≡ end_code (ending_said ending) }
+// An ending as numbers: 0 for the file's end, else the refusal's number; its place, and the marker that it carries.
+#[derive(Clone, Copy)]
+struct End {
+    code: u32,
+    place: u64,
+    marker: u32,
+}
+
+#[tactic(auto, unfolding(crate::specs::Computed::ended))]
+fn end_of(ending: Ending) -> End
+    ensures code { result.code ≡ end_code (ending_said ending) }
+    ensures place { result.place ≡ end_place (ending_said ending) }
+    ensures marker { result.marker ≡ end_marker (ending_said ending) }
 {
     match ending {
-        Ending::Ended => 0,
-        Ending::Refused(refusal, _) => number_of(refusal),
-        Ending::OverBudget => 37,
-        Ending::NoRoomForTape(_) => 27,
+        Ending::Ended => plain_end(0, 0),
+        Ending::Refused(refusal, place) => End {
+            code: number_of(refusal),
+            place,
+            marker: marker_of(refusal),
+        },
+        Ending::OverBudget => plain_end(37, 0),
+        Ending::NoRoomForTape(place) => plain_end(27, place),
     }
 }
 
-// 0 where nothing is refused.
-fn end_place(ending: Ending) -> u64
-    ensures { result ≡ end_place (ending_said ending) }
+// No marker is refused.
+fn plain_end(code: u32, place: u64) -> End
+    ensures { result ≡ record { code = code; place = place; marker = 0 } }
 {
-    match ending {
-        Ending::Ended => 0,
-        Ending::Refused(_, place) => place,
-        Ending::OverBudget => 0,
-        Ending::NoRoomForTape(place) => place,
-    }
-}
-
-// 0 where no marker is refused.
-fn end_marker(ending: Ending) -> u32
-    ensures { result ≡ end_marker (ending_said ending) }
-{
-    match ending {
-        Ending::Ended => 0,
-        Ending::Refused(refusal, _) => marker_of(refusal),
-        Ending::OverBudget => 0,
-        Ending::NoRoomForTape(_) => 0,
+    End {
+        code,
+        place,
+        marker: 0,
     }
 }

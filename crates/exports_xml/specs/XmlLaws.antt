@@ -1,6 +1,5 @@
 -- What the numbers of the answer for XML stand for: one answer alone. 0 is XML, any other number is that of one refusal of table N.
-use Rattle.std.specs.Prelude.{Bool, true, false, cond, List, [], ◌∷◌, ◌≡◌, refl, ℕ, ◌+◌, ltb, eqb, length}
-use Rattle.std.proofs.Math.Option.{Option, none, some}
+use Rattle.std.specs.Prelude.{Bool, true, false, cond, List, [], ◌∷◌, ◌≡◌, refl, ℕ, ◌+◌, ltb, eqb, length, None, Option, Some}
 use Rattle.std.proofs.Common.{sym, subst, ◌∙◌, arith, ne_eqb}
 use Rattle.calendar.specs.Date as calendar
 use Rattle.calendar.specs.Date.{calendar_of}
@@ -68,19 +67,19 @@ plain_named : (number place : ℕ) → Plain number → Named (refused number []
 unfolding kinds_from first_number second_number
 plain_named number place p = (p.0, rw (ne_eqb number 21 p.1))
 
-date_told : (b number : ℕ) → date_bar (calendar_of b) ≡ some number → number ≡ 30
+date_told : (b number : ℕ) → date_bar (calendar_of b) ≡ Some number → number ≡ 30
 unfolding date_bar
 date_told b number = go (calendar_of b) refl
   where
-    go : (r : calendar.Said Time) → calendar_of b ≡ r → date_bar r ≡ some number → number ≡ 30
+    go : (r : calendar.Said Time) → calendar_of b ≡ r → date_bar r ≡ Some number → number ≡ 30
     go (calendar.gives t) f e = let z : ◌≡◌ {A = ℕ} 0 1 = cc in absurd (omega arith)
     go (calendar.refused k) f e = let g : k ≡ number = cc in sym g ∙ calendar_refusal b k f
 
-not_none : {n : ℕ} → none ≡ some n → ⊥
+not_none : {n : ℕ} → None ≡ Some n → ⊥
 not_none e = let z : ◌≡◌ {A = ℕ} 0 1 = cc in omega arith
 
 -- of the first event that has no XML: 30, 35 or 36
-bar_plain : (m : Meaning) (number : ℕ) → bar_of m ≡ some number → Plain number
+bar_plain : (m : Meaning) (number : ℕ) → bar_of m ≡ Some number → Plain number
 unfolding bar_of
 bar_plain (array n) number e = absurd (not_none e)
 bar_plain (dictionary n) number e = absurd (not_none e)
@@ -92,7 +91,7 @@ bar_plain (integer z) number e = absurd (not_none e)
 bar_plain (real b) number e = let f : 35 ≡ number = cc in subst (λ (n : ℕ). Plain n) f plain_35
 bar_plain (text s) number e = go (all_chars (scalars8 s)) e
   where
-    go : (b : Bool) → cond b none (some 36) ≡ some number → Plain number
+    go : (b : Bool) → cond b None (Some 36) ≡ Some number → Plain number
     go true f = absurd (not_none f)
     go false f = let g : 36 ≡ number = cc in subst (λ (n : ℕ). Plain n) g plain_36
 bar_plain (uid n) number e = let f : 35 ≡ number = cc in subst (λ (k : ℕ). Plain k) f plain_35
@@ -103,8 +102,8 @@ events_named at [] n = tt
 events_named at (m ∷ ms) n = go (bar_of m) refl (events_named (at + length (bytes_for m)) ms n)
   where
     go : (o : Option ℕ) → bar_of m ≡ o → Named (by_events (at + length (bytes_for m)) ms (long n)) → Named (by_events at (m ∷ ms) (long n))
-    go (some number) e later = rw (e, by_events) (plain_named number at (bar_plain m number e))
-    go none e later = rw (e, by_events) later
+    go (Some number) e later = rw (e, by_events) (plain_named number at (bar_plain m number e))
+    go None e later = rw (e, by_events) later
 
 pub measured_named : (tape : List ℕ) → Named (measured_of tape)
 unfolding measured_of by_check checked_said refused_at

@@ -3,11 +3,10 @@ ghost use Rattle.std.specs.Prelude.{◌≡◌, length};
 ghost use Rattle.number.specs.BeLaws.{Bytes};
 ghost use Rattle.xml.specs.Said.{answer_said};
 ghost use Rattle.xml.specs.Write.{measured_of, answer_of, output_of};
-ghost use Rattle.exports.specs.Write.{write_code, write_value, expected_number, found_number};
+ghost use Rattle.exports.specs.Write.{write_code, write_value, expected_number, found_number, written_numbers};
 ghost use Rattle.exports_xml.specs.Xml.{as_written};
 
-use exports::write::{first_number, second_number};
-use grammar::answer::number_of;
+use exports::numbers::Numbers;
 use xml::answer::{Answer, bar_number};
 use xml::{measure_xml, write_xml};
 
@@ -28,11 +27,11 @@ pub extern "C" fn zm_xml(
     ensures out_after { out.new ≡ output_of tape.now out.old }
     ensures bytes { Bytes tape.now }
 {
-    let answer = write_xml(tape, out);
-    *value = xml_value(answer);
-    *expected = xml_expected(answer);
-    *found = xml_found(answer);
-    xml_code(answer)
+    let numbers = numbers_of(write_xml(tape, out));
+    *value = numbers.place;
+    *expected = numbers.expected;
+    *found = numbers.found;
+    numbers.code
 }
 
 // The same answer as with an output that is long enough, and no output.
@@ -48,53 +47,21 @@ pub extern "C" fn zm_xml_length(
     ensures expected_after { expected.new ≡ expected_number (as_written (measured_of tape.now)) }
     ensures found_after { found.new ≡ found_number (as_written (measured_of tape.now)) }
 {
-    let answer = measure_xml(tape);
-    *value = xml_value(answer);
-    *expected = xml_expected(answer);
-    *found = xml_found(answer);
-    xml_code(answer)
+    let numbers = numbers_of(measure_xml(tape));
+    *value = numbers.place;
+    *expected = numbers.expected;
+    *found = numbers.found;
+    numbers.code
 }
 
-fn xml_code(answer: Answer) -> u32
-    ensures { result ≡ write_code (as_written (answer_said answer)) }
+#[tactic(auto, unfolding(crate::specs::Computed::answered))]
+fn numbers_of(answer: Answer) -> Numbers
+    ensures { result ≡ written_numbers (as_written (answer_said answer)) }
 {
     match answer {
-        Answer::Length(_) => 0,
-        Answer::Refused(refusal, _) => number_of(refusal),
-        Answer::Barred(bar, _) => bar_number(bar),
-        Answer::NoRoom => 25,
-    }
-}
-
-fn xml_value(answer: Answer) -> u64
-    ensures { result ≡ write_value (as_written (answer_said answer)) }
-{
-    match answer {
-        Answer::Length(n) => n as u64,
-        Answer::Refused(_, place) => place,
-        Answer::Barred(_, place) => place,
-        Answer::NoRoom => 0,
-    }
-}
-
-fn xml_expected(answer: Answer) -> u32
-    ensures { result ≡ expected_number (as_written (answer_said answer)) }
-{
-    match answer {
-        Answer::Length(_) => 0,
-        Answer::Refused(refusal, _) => first_number(refusal),
-        Answer::Barred(_, _) => 0,
-        Answer::NoRoom => 0,
-    }
-}
-
-fn xml_found(answer: Answer) -> u32
-    ensures { result ≡ found_number (as_written (answer_said answer)) }
-{
-    match answer {
-        Answer::Length(_) => 0,
-        Answer::Refused(refusal, _) => second_number(refusal),
-        Answer::Barred(_, _) => 0,
-        Answer::NoRoom => 0,
+        Answer::Length(n) => Numbers::plain(0, n as u64),
+        Answer::Refused(refusal, place) => Numbers::refused(refusal, place),
+        Answer::Barred(bar, place) => Numbers::plain(bar_number(bar), place),
+        Answer::NoRoom => Numbers::plain(25, 0),
     }
 }

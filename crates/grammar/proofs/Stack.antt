@@ -1,17 +1,14 @@
--- The open containers, as they stand in an array: the first so many, of which the last is the innermost.
-use mathlib.Core.List.{List, [], ◌∷◌}
+-- One open container more, and one less.
+use mathlib.Core.List.{List, ◌∷◌}
 use mathlib.Core.Path.{◌≡◌, refl, ap}
 use Prim.Native.Nat.{ℕ, zero, suc, ◌+◌, ◌-◌, ◌<◌, ◌≤◌}
 use native.Mathlib.Numerals.{add-one}
 use native.Mathlib.Omega.{arith}
 use lib.ListN.{length, set, get_or}
 use lib.Seq.{get_or-set_same, get_or-set_other}
+pub use Rattle.grammar.specs.Stack.{stack}
 use Rattle.grammar.specs.declared.turn.Due.{Due}
 use Rattle.grammar.specs.declared.turn.Due.TheVariants.{Root}
-
-unfoldable pub stack : ℕ → List Due → List Due
-stack zero l = []
-stack (suc d) l = get_or l d Root ∷ stack d l
 
 pub length_stack : (d : ℕ) (l : List Due) → length (stack d l) ≡ d
 unfolding stack

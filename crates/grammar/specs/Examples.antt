@@ -1,6 +1,5 @@
 -- Tapes and what a check of them says, computed.
-use Rattle.std.specs.Prelude.{true, [], ◌∷◌, ◌++◌, map, ◌≡◌, refl, pos, replicate}
-use Rattle.std.proofs.Math.Option.{none}
+use Rattle.std.specs.Prelude.{true, [], ◌∷◌, ◌++◌, map, ◌≡◌, refl, pos, replicate, None}
 use Rattle.event.specs.Meaning.{array, dictionary, close, boolean, bytes, date, integer, real, text, uid}
 use Rattle.grammar.specs.Check.{check_of}
 use Rattle.grammar.specs.Computed.{computed}
@@ -61,7 +60,7 @@ deep = refl
 -- what a key may be, and what else is found where one is due
 pub keys :
     map (turn_of Key)
-    (text [] ∷ close ∷ array none ∷ dictionary none ∷ boolean true ∷ bytes [] ∷ date 0 ∷ integer (pos 0) ∷ real 0 ∷ uid 0 ∷ []) ≡
+    (text [] ∷ close ∷ array None ∷ dictionary None ∷ boolean true ∷ bytes [] ∷ date 0 ∷ integer (pos 0) ∷ real 0 ∷ uid 0 ∷ []) ≡
     (Pass Value ∷ Close ∷ map (unexpected_of DictionaryKeyOrEndCollection) (StartArray ∷ StartDictionary ∷ Boolean ∷ Data ∷ Date ∷ Integer ∷ Real ∷ Uid ∷ []))
 unfolding computed
 keys = refl

@@ -7,6 +7,7 @@ pub mod More
 pub mod MoreLaws
 pub mod Said
 pub mod SaidLaws
+pub mod Stack
 pub mod Turn
 pub mod TurnLaws
 pub mod Verdict

@@ -2,6 +2,7 @@
 #![tactic(auto)]
 
 pub mod answer;
+mod around;
 pub mod check;
 pub mod turn;
 pub mod way;

@@ -4,10 +4,9 @@ ghost use Rattle.event.specs.Meaning.{meaning_of};
 ghost use Rattle.grammar.specs.Way.{way_of, barred_at, way_at};
 
 use crate::answer::{EventKind, Refusal};
-use crate::turn::{Due, Turn, after, is_nothing, turn_of};
+use crate::turn::{Due, Turn, after, turn_of};
 use event::Event;
 use event::limits::MAX_OPEN;
-use tape::item::Step;
 use tape::step::quick_step;
 
 // Past a value or a key, with what is due then; into a container, with what is due in it and what is due behind it; out of the innermost
@@ -57,19 +56,19 @@ pub fn way_of(due: Due, depth: usize, event: Event) -> Way
 pub(crate) fn way_at(tape: &[u8], at: usize, due: Due, depth: usize) -> Gone
     ensures { result ≡ way_at tape.now at due depth }
 {
-    if is_nothing(due) {
+    if due == Due::Nothing {
         return barred(Refusal::TrailingEvents, at);
     }
-    let Step::Item(item) = quick_step(tape, at) else {
+    let Some(item) = quick_step(tape, at) else {
         return barred(Refusal::BadTape, at);
     };
-    let event = item.event;
     Gone {
-        way: way_of(due, depth, event),
+        way: way_of(due, depth, item.event),
         next: item.next,
     }
 }
 
+#[tactic(auto, unfolding(crate::specs::Way::barred_at))]
 fn barred(refusal: Refusal, at: usize) -> Gone
     ensures { result ≡ barred_at refusal at }
 {

@@ -7,8 +7,8 @@ pub fn decode(s: &[u8], out: &mut [u8]) -> usize
     ensures whole { result ≡ length (take result out.new) }
 {
     let count = least(s.len() / 2, out.len());
-    for n in 0..count {
-        out[n] = value(s[n * 2]) * 16 + value(s[n * 2 + 1]);
+    for (n, byte) in out[..count].iter_mut().enumerate() {
+        *byte = value(s[n * 2]) * 16 + value(s[n * 2 + 1]);
     }
     count
 }
@@ -50,5 +50,5 @@ pub fn least(a: usize, b: usize) -> usize
     ensures upper_bound { result ≤ a }
     ensures upper_bound_2 { result ≤ b }
 {
-    if a < b { a } else { b }
+    a.min(b)
 }

@@ -24,10 +24,7 @@ pub fn keep(buffer: &mut [u8], from: usize, to: usize) -> usize
     ensures within { result ≤ length buffer.new }
     ensures moved { from ≤ to → to ≤ length buffer.old → take result buffer.new ≡ slice_range buffer.old from to }
 {
-    if buffer.len() < to {
-        return 0;
-    }
-    if to < from {
+    if buffer.len() < to || to < from {
         return 0;
     }
     buffer.copy_within(from..to, 0);

@@ -13,6 +13,7 @@ pub fn read_full<R: Read>(from: &mut R, memory: &mut [u8]) -> io::Result<usize>
     ensures bytes { IfOk result (λ n. Consumes (R.remaining from.old) (R.remaining from.new) (take n memory.new)) }
     ensures end { IfOk result (λ n. n < length memory.new → IsAtEnd (R.remaining from.new)) }
 {
+    // Kept: each turn goes on by as many bytes as were read, so no range or iterator counts them.
     let mut done: usize = 0;
     while done < memory.len() {
         let got = from.read(&mut memory[done..])?;

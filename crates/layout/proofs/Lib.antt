@@ -3,3 +3,4 @@ pub mod Looks
 pub mod Magic
 pub mod Numbers
 pub mod Short
+pub mod Rules

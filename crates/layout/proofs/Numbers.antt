@@ -1,49 +1,27 @@
 -- Numbers of a width that stand in a file.
+use Rattle.std.specs.Prelude.{None, Option, Some}
 use Prim.Native.Nat.{ℕ, zero, suc, ◌+◌, ◌-◌, ◌*◌, ◌/◌, ◌^◌, ◌≤◌, ◌<◌}
 use mathlib.Core.List.{List}
-use mathlib.Core.Bool.{Bool, true, false}
-use mathlib.Core.Path.{◌≡◌, refl, sym, ◌∙◌}
+use mathlib.Core.Path.{◌≡◌, sym, ◌∙◌}
 use native.Mathlib.Nat.{mul-le-mul_left, le-div_iff_mul-le, div-lt_iff_lt-mul, div-le_self}
 use native.Mathlib.Omega.{arith}
-use borrow.Author.Tests.{le-leb, lt-ltb, le-ltb, ltb-true, ltb-false}
-use lib.Dec.{ltb}
 use lib.ListN.{length, take, drop}
 use Rattle.number.specs.Be.{be}
 use Rattle.number.specs.Read.{number_of}
-use Rattle.number.specs.declared.be.Number.{Number}
-use Rattle.number.specs.declared.be.Number.TheVariants.{Of, NoNumber}
 use Rattle.number.specs.Part.{part}
 use Rattle.number.specs.PartLaws.{number_part}
-use Rattle.number.specs.Width.{bytes_in}
-use Rattle.number.specs.declared.width.Width.{Width}
-use Rattle.layout.specs.Layout.{number_at}
-use Rattle.layout.specs.declared.layout.Entry.{Entry}
-use Rattle.layout.specs.declared.layout.Entry.TheVariants.{Outside}
-use Rattle.layout.specs.declared.layout.Entry.TheVariants as entry
 
-module _ (s : List ℕ) (at n : ℕ) (some : 0 < n) (few : n ≤ 8) (inside : at + n ≤ length s) (r : Number) (read : r ≡ number_of (take (at + n - at) (drop at s))) where
+module _ (s : List ℕ) (at n : ℕ) (some : 0 < n) (few : n ≤ 8) (inside : at + n ≤ length s) (r : Option ℕ) (read : r ≡ number_of (take (at + n - at) (drop at s))) where
   -- what is read of such bytes is their number
-  pub is_number : (v : ℕ) → r ≡ Of v → v ≡ be (part s at n)
-  is_number v e = let z : Of v ≡ Of (be (part s at n)) = sym e ∙ read ∙ number_part s at n inside some few in cc
+  pub is_number : (v : ℕ) → r ≡ Some v → v ≡ be (part s at n)
+  is_number v e = let z : Some v ≡ Some (be (part s at n)) = sym e ∙ read ∙ number_part s at n inside some few in cc
 
   -- and never nothing
-  pub not_none : r ≡ NoNumber → ⊥
+  pub not_none : r ≡ None → ⊥
   not_none e =
-      let z : NoNumber ≡ Of (be (part s at n)) = sym e ∙ read ∙ number_part s at n inside some few in
+      let z : None ≡ Some (be (part s at n)) = sym e ∙ read ∙ number_part s at n inside some few in
       let q : ◌≡◌ {A = ℕ} 0 1 = cc in
       omega arith
-
--- whether eight bytes pass the end, without the sum
-pub eight_left : (end at : ℕ) → 8 ≤ end → ltb (end - 8) at ≡ ltb end (at + 8)
-eight_left end at h = go (ltb end (at + 8)) refl
-  where
-    go : (b : Bool) → ltb end (at + 8) ≡ b → ltb (end - 8) at ≡ b
-    go true e =
-        let l : end < at + 8 = ltb-true end (at + 8) e in
-        lt-ltb (end - 8) at (omega arith)
-    go false e =
-        let l : at + 8 ≤ end = ltb-false end (at + 8) e in
-        le-ltb (end - 8) at (omega arith)
 
 -- an object's number, and a place among references, times a width fit
 pub scaled : (n w : ℕ) → n < 2 ^ 32 → w ≤ 8 → n * w < 2 ^ 36
@@ -57,21 +35,6 @@ pub bit_times : (b n : ℕ) → b < 2 → b * n ≤ n
 bit_times zero n h = omega arith
 bit_times (suc zero) n h = omega arith
 bit_times (suc (suc b)) n h = absurd (omega arith)
-
--- a number whose bytes lie within the file is there
-module _ (s : List ℕ) (w : Width) (at : ℕ) (inside : at + bytes_in w ≤ length s) (r : Entry) (read : r ≡ number_at s w at) where
-  there : r ≡ entry.Of (be (part s at (bytes_in w)))
-  unfolding number_at
-  there = read ∙ rw (le-leb (at + bytes_in w) (length s) inside)
-
-  pub is_there : (v : ℕ) → r ≡ entry.Of v → v ≡ be (part s at (bytes_in w))
-  is_there v e = let z : entry.Of v ≡ entry.Of (be (part s at (bytes_in w))) = sym e ∙ there in cc
-
-  pub not_outside : r ≡ Outside → ⊥
-  not_outside e =
-      let z : Outside ≡ entry.Of (be (part s at (bytes_in w))) = sym e ∙ there in
-      let q : ◌≡◌ {A = ℕ} 0 1 = cc in
-      omega arith
 
 -- a table of so many entries, from an offset on, ends at or before T: by a quotient, and by the product
 module _ (table count w top : ℕ) (pos : 0 < w) (le : table ≤ top) where

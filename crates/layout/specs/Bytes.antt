@@ -1,10 +1,9 @@
 -- Whether a file gives a record, and where the bytes of data and text stand.
-use Rattle.std.specs.Prelude.{Bool, true, false, cond, List, [], ℕ}
+use Rattle.std.specs.Prelude.{Bool, true, false, cond, List, [], ℕ, Some}
 use Rattle.number.specs.declared.width.Width.TheVariants.{One}
 use Rattle.event.specs.Same.{same}
 use Rattle.event.specs.declared.Event.{Event}
 use Rattle.event.specs.declared.Event.TheVariants.{StartArray, StartDictionary, EndCollection, Boolean, Data, Date, Integer, Real, Nan, String, Uid}
-use Rattle.event.specs.declared.Length.TheVariants.{Given}
 use Rattle.object.specs.Object.{Found, object_at, outside, refused, scalar, bytes, utf8, utf16, array, dictionary}
 use Rattle.layout.specs.Looked.{Looked, barred, missing, faulty, container}
 
@@ -60,8 +59,8 @@ start_asked e (scalar f) = denied 17 []
 start_asked e (bytes start n) = denied 17 []
 start_asked e (utf8 start n) = denied 17 []
 start_asked e (utf16 start n) = denied 17 []
-start_asked e (array n) = given_if (same e (StartArray (Given n)))
-start_asked e (dictionary n) = given_if (same e (StartDictionary (Given n)))
+start_asked e (array n) = given_if (same e (StartArray (Some n)))
+start_asked e (dictionary n) = given_if (same e (StartDictionary (Some n)))
 
 -- an end: reading gives a container
 unfoldable pub end_asked : Found → Asked

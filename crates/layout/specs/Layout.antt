@@ -1,5 +1,5 @@
 -- What a file says under the sizes, the count and the table of its trailer.
-use Rattle.std.specs.Prelude.{cond, List, [], ℕ, ◌+◌, ◌*◌, ◌/◌, ◌%◌, ltb, leb, eqb, length}
+use Rattle.std.specs.Prelude.{cond, List, [], ℕ, ◌+◌, ◌*◌, ◌/◌, ◌%◌, ltb, leb, eqb, length, None, Option, Some}
 use Rattle.number.specs.Be.{be}
 use Rattle.number.specs.Width.{bytes_in}
 use Rattle.number.specs.declared.width.Width.{Width}
@@ -14,27 +14,25 @@ use Rattle.object.specs.declared.content.Extent.{Extent}
 use Rattle.layout.specs.Looked.{Looked, barred, missing, faulty, scalar, container, array, dictionary, Source}
 use Rattle.layout.specs.declared.layout.Due.{Due}
 use Rattle.layout.specs.declared.layout.Due.TheVariants.{Wrong, Close, Member}
-use Rattle.layout.specs.declared.layout.Entry.{Entry}
-use Rattle.layout.specs.declared.layout.Entry.TheVariants.{Of, Outside}
 use Rattle.layout.specs.declared.layout.Layout.{Layout}
 use Rattle.layout.specs.declared.layout.Standing.{Standing}
 use Rattle.layout.specs.declared.frame.Frame.{Frame}
 
 -- the number of a width that stands at an offset, where it lies within the file
-unfoldable pub number_at : List ℕ → Width → ℕ → Entry
-number_at file w at = cond (leb (at + bytes_in w) (length file)) (Of (be (part file at (bytes_in w)))) Outside
+unfoldable pub number_at : List ℕ → Width → ℕ → Option ℕ
+number_at file w at = cond (leb (at + bytes_in w) (length file)) (Some (be (part file at (bytes_in w)))) None
 
 -- an entry of the offset table (docs/FORMAT.md, R4)
-unfoldable pub entry_at : List ℕ → Layout → ℕ → Entry
+unfoldable pub entry_at : List ℕ → Layout → ℕ → Option ℕ
 entry_at file l i = number_at file l.offsets (l.table + i * bytes_in l.offsets)
 
 -- where the reference at a position stands among a dictionary's: the keys stand before the values, and come in turn with them (R9, R17)
 unfoldable pub place_in : ℕ → ℕ → ℕ
 place_in count position = position / 2 + position % 2 * count
 
-unfoldable pub given : Entry → Due
-given Outside = Wrong
-given (Of n) = Member n
+unfoldable pub given : Option ℕ → Due
+given None = Wrong
+given (Some n) = Member n
 
 -- what is due at a position of an open container at an offset, of so many references, the reference at the place that the position has
 unfoldable pub due_at : List ℕ → Width → ℕ → ℕ → ℕ → ℕ → ℕ → Due
@@ -60,17 +58,17 @@ due_in file l f offset (Dictionary e) = in_dictionary file l.refs f offset e
 abbrev pub nowhere : Standing
 nowhere = record { offset = 0; container = NoContainer }
 
-unfoldable pub stands_from : List ℕ → Entry → Standing
-stands_from file Outside = nowhere
-stands_from file (Of offset) = record { offset = offset; container = container_at file offset }
+unfoldable pub stands_from : List ℕ → Option ℕ → Standing
+stands_from file None = nowhere
+stands_from file (Some offset) = record { offset = offset; container = container_at file offset }
 
 unfoldable pub stands_at : List ℕ → Layout → ℕ → Standing
 stands_at file l n = cond (ltb n l.count) (stands_from file (entry_at file l n)) nowhere
 
 -- the same for an open container: nowhere where its entry isn't the offset that was kept
-unfoldable pub kept_from : List ℕ → ℕ → Entry → Standing
-kept_from file kept Outside = nowhere
-kept_from file kept (Of offset) = cond (eqb offset kept) (record { offset = offset; container = container_at file offset }) nowhere
+unfoldable pub kept_from : List ℕ → ℕ → Option ℕ → Standing
+kept_from file kept None = nowhere
+kept_from file kept (Some offset) = cond (eqb offset kept) (record { offset = offset; container = container_at file offset }) nowhere
 
 unfoldable pub stands_in : List ℕ → Layout → Frame → Standing
 stands_in file l f = cond (ltb f.object l.count) (kept_from file f.offset (entry_at file l f.object)) nowhere
@@ -90,9 +88,9 @@ look_in offset (found.utf16 start n) = scalar String offset
 look_in offset (found.array n) = container array n offset
 look_in offset (found.dictionary n) = container dictionary n offset
 
-unfoldable pub look_from : List ℕ → Layout → Entry → Looked
-look_from file l Outside = missing
-look_from file l (Of offset) = look_in offset (object_at file l.refs offset)
+unfoldable pub look_from : List ℕ → Layout → Option ℕ → Looked
+look_from file l None = missing
+look_from file l (Some offset) = look_in offset (object_at file l.refs offset)
 
 -- an object by its number (R8)
 unfoldable pub look_of : List ℕ → Layout → ℕ → Looked

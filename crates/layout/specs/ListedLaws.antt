@@ -1,6 +1,6 @@
 -- What is looked up stands in the table under its number; and a record of it, asked for there, is given: of a scalar its own bytes, of a container's
 -- start and its end none. docs/FORMAT.md, R27.
-use Rattle.std.specs.Prelude.{Bool, List, ℕ, ◌<◌}
+use Rattle.std.specs.Prelude.{Bool, List, ℕ, ◌<◌, None, Option, Some}
 use Rattle.std.proofs.Math.Bool.{true, false}
 use Rattle.std.proofs.Math.Path.{◌≡◌, refl, sym}
 use Rattle.std.proofs.Common.{◌∙◌, arith, lt-ltb, eq-eqb, ltb-true}
@@ -10,7 +10,6 @@ use Rattle.number.specs.declared.width.Width.TheVariants.{One}
 use Rattle.event.specs.SameLaws.{means_same}
 use Rattle.event.specs.declared.Event.{Event}
 use Rattle.event.specs.declared.Event.TheVariants.{StartArray, StartDictionary, EndCollection, Boolean, Data, Date, Integer, Real, Nan, String, Uid}
-use Rattle.event.specs.declared.Length.TheVariants.{Given}
 use Rattle.object.specs.Container.{container_at}
 use Rattle.object.specs.KnownLaws.{Plain}
 use Rattle.object.specs.Object.{Found, object_at}
@@ -21,14 +20,12 @@ use Rattle.layout.specs.FoundLaws.{Sound, sound, plain_asked}
 use Rattle.layout.specs.Layout.{entry_at, look_in, look_from, look_of}
 use Rattle.layout.specs.Listed.{is_entry, is_listed}
 use Rattle.layout.specs.Looked.{Looked, barred, missing, faulty, scalar, container, Shape, array, dictionary, start_of}
-use Rattle.layout.specs.declared.layout.Entry.{Entry}
-use Rattle.layout.specs.declared.layout.Entry.TheVariants.{Of, Outside}
 use Rattle.layout.specs.declared.layout.Layout.{Layout}
 
 -- what is looked up at an offset: its number is below the count, its entry is that offset, and there it is found
 pub record Seen (file : List ℕ) (l : Layout) (n offset : ℕ) (x : Looked) : Type 0 where
   pub numbered : n < l.count
-  pub entry : entry_at file l n ≡ Of offset
+  pub entry : entry_at file l n ≡ Some offset
   pub there : look_in offset (object_at file l.refs offset) ≡ x
 
 abbrev Sees : List ℕ → Layout → ℕ → Looked → Type 0
@@ -40,7 +37,7 @@ Sees file l n (container s k offset) = Seen file l n offset (container s k offse
 
 module _ (file : List ℕ) (l : Layout) (n : ℕ) where
   module _ (numbered : n < l.count) where
-    in_sees : (offset : ℕ) → entry_at file l n ≡ Of offset → (x : Found) → object_at file l.refs offset ≡ x → Sees file l n (look_in offset x)
+    in_sees : (offset : ℕ) → entry_at file l n ≡ Some offset → (x : Found) → object_at file l.refs offset ≡ x → Sees file l n (look_in offset x)
     unfolding look_in
     in_sees offset entry found.outside e = tt
     in_sees offset entry (found.refused number values) e = tt
@@ -51,10 +48,10 @@ module _ (file : List ℕ) (l : Layout) (n : ℕ) where
     in_sees offset entry (found.array k) e = record { numbered = numbered; entry = entry; there = rw e }
     in_sees offset entry (found.dictionary k) e = record { numbered = numbered; entry = entry; there = rw e }
 
-    from_sees : (x : Entry) → entry_at file l n ≡ x → Sees file l n (look_from file l x)
+    from_sees : (x : Option ℕ) → entry_at file l n ≡ x → Sees file l n (look_from file l x)
     unfolding look_from
-    from_sees Outside e = tt
-    from_sees (Of offset) e = in_sees offset e (object_at file l.refs offset) refl
+    from_sees None e = tt
+    from_sees (Some offset) e = in_sees offset e (object_at file l.refs offset) refl
 
   sees : Sees file l n (look_of file l n)
   unfolding look_of
@@ -115,11 +112,11 @@ module _ (file : List ℕ) (offset : ℕ) where
   in_given s k (found.array n) q =
       let a : array ≡ s = cc in
       let b : n ≡ k = cc in
-      rw (← a, ← b, means_same (StartArray (Given n)) (StartArray (Given n)) refl) (refl, refl)
+      rw (← a, ← b, means_same (StartArray (Some n)) (StartArray (Some n)) refl) (refl, refl)
   in_given s k (found.dictionary n) q =
       let a : dictionary ≡ s = cc in
       let b : n ≡ k = cc in
-      rw (← a, ← b, means_same (StartDictionary (Given n)) (StartDictionary (Given n)) refl) (refl, refl)
+      rw (← a, ← b, means_same (StartDictionary (Some n)) (StartDictionary (Some n)) refl) (refl, refl)
 
 module _ (file : List ℕ) (l : Layout) (n : ℕ) where
   pub scalar_asked_law : (e : Event) (offset : ℕ) → look_of file l n ≡ scalar e offset → found_asked e (object_at file l.refs offset) ≡ event_asked file e offset

@@ -1,6 +1,6 @@
 -- What is known of an object that is looked up, in any file under any layout: the file gives it; and that no object is missing where the offset
 -- table ends at or before T.
-use Rattle.std.specs.Prelude.{Bool, List, ◌⊎◌, length}
+use Rattle.std.specs.Prelude.{Bool, List, ◌⊎◌, length, None, Option, Some}
 use Rattle.std.proofs.Math.Bool.{true, false}
 use Rattle.std.proofs.Common.{inl, inr, mul-le-mul_right, arith}
 use Rattle.std.proofs.Math.Path.{◌≡◌, refl}
@@ -29,8 +29,6 @@ use Rattle.layout.specs.Layout.{number_at, entry_at, stands_from, stands_at, kep
 use Rattle.layout.specs.Refusals.{look_refusals, Faults}
 use Rattle.layout.specs.Looked.{Looked, barred, missing, faulty, scalar, container, Shape, with_place}
 use Rattle.layout.specs.declared.frame.Frame.{Frame}
-use Rattle.layout.specs.declared.layout.Entry.{Entry}
-use Rattle.layout.specs.declared.layout.Entry.TheVariants.{Of, Outside}
 use Rattle.layout.specs.declared.layout.Layout.{Layout}
 
 -- an event that the file gives, by where its bytes stand: data or UTF-8 as they are, UTF-16; nowhere, if it has none
@@ -72,12 +70,12 @@ bare_plain (Uid n) h = refl
 -- references lie within the file
 pub record Standing (file : List ℕ) (l : Layout) (n : ℕ) (s : Shape) (k offset : ℕ) : Type 0 where
   pub numbered : n < l.count
-  pub entry : entry_at file l n ≡ Of offset
+  pub entry : entry_at file l n ≡ Some offset
   pub lies : Lies file (bytes_in l.refs) s k (container_at file offset)
 
 abbrev pub LookedRight : List ℕ → Layout → ℕ → Looked → Type 0
 LookedRight file l n (barred number values) = Faults number
-LookedRight file l n missing = (n < l.count) × (entry_at file l n ≡ Outside)
+LookedRight file l n missing = (n < l.count) × (entry_at file l n ≡ None)
 LookedRight file l n (faulty number values offset) = Faults number
 LookedRight file l n (scalar e offset) = BytesRight file e (event_asked file e offset)
 LookedRight file l n (container s k offset) = Standing file l n s k offset
@@ -93,7 +91,7 @@ listed_7 = refl
 
 module _ (file : List ℕ) (l : Layout) (n : ℕ) where
   module _ (numbered : n < l.count) where
-    in_right : (offset : ℕ) → entry_at file l n ≡ Of offset → (x : Found) → Sound file (bytes_in l.refs) x (object_at file One offset) (container_at file offset) → LookedRight file l n (look_in offset x)
+    in_right : (offset : ℕ) → entry_at file l n ≡ Some offset → (x : Found) → Sound file (bytes_in l.refs) x (object_at file One offset) (container_at file offset) → LookedRight file l n (look_in offset x)
     unfolding look_in event_asked data_asked text_asked
     in_right offset entry found.outside h = listed_6
     in_right offset entry (found.refused number values) h = h
@@ -104,10 +102,10 @@ module _ (file : List ℕ) (l : Layout) (n : ℕ) where
     in_right offset entry (found.array k) h = record { numbered = numbered; entry = entry; lies = h }
     in_right offset entry (found.dictionary k) h = record { numbered = numbered; entry = entry; lies = h }
 
-    from_right : (x : Entry) → entry_at file l n ≡ x → LookedRight file l n (look_from file l x)
+    from_right : (x : Option ℕ) → entry_at file l n ≡ x → LookedRight file l n (look_from file l x)
     unfolding look_from
-    from_right Outside e = (numbered, e)
-    from_right (Of offset) e = in_right offset e (object_at file l.refs offset) (sound file l.refs offset)
+    from_right None e = (numbered, e)
+    from_right (Some offset) e = in_right offset e (object_at file l.refs offset) (sound file l.refs offset)
 
   pub look_right : LookedRight file l n (look_of file l n)
   unfolding look_of
@@ -137,7 +135,7 @@ Laid file l = l.table + l.count * bytes_in l.offsets ≤ trailer_at file
 
 module _ (file : List ℕ) (l : Layout) (laid : Laid file l) (n : ℕ) where
   -- so an entry lies within the file
-  pub entry_there : n < l.count → entry_at file l n ≡ Of (be (part file (l.table + n * bytes_in l.offsets) (bytes_in l.offsets)))
+  pub entry_there : n < l.count → entry_at file l n ≡ Some (be (part file (l.table + n * bytes_in l.offsets) (bytes_in l.offsets)))
   unfolding entry_at number_at
   entry_there h =
       let w = bytes_in l.offsets in
@@ -147,7 +145,7 @@ module _ (file : List ℕ) (l : Layout) (laid : Laid file l) (n : ℕ) where
   -- and no object is missing
   pub never_missing : look_of file l n ≡ missing → ⊥
   never_missing e =
-      let k : (n < l.count) × (entry_at file l n ≡ Outside) = rw e at (look_right file l n) in
+      let k : (n < l.count) × (entry_at file l n ≡ None) = rw e at (look_right file l n) in
       let t = entry_there k.0 in
       let z : ◌≡◌ {A = ℕ} 0 1 = cc in
       omega arith

@@ -1,8 +1,7 @@
 -- What looking an object up answers.
-use Rattle.std.specs.Prelude.{List, [], ℕ}
+use Rattle.std.specs.Prelude.{List, [], ℕ, Some}
 use Rattle.event.specs.declared.Event.{Event}
 use Rattle.event.specs.declared.Event.TheVariants.{StartArray, StartDictionary}
-use Rattle.event.specs.declared.Length.TheVariants.{Given}
 use Rattle.layout.specs.declared.frame.Frame.{Frame}
 use Rattle.layout.specs.declared.layout.Due.{Due}
 
@@ -36,5 +35,5 @@ pub record Source : Type 0 where
 
 -- the event that a container begins with
 unfoldable pub start_of : Shape → ℕ → Event
-start_of array n = StartArray (Given n)
-start_of dictionary n = StartDictionary (Given n)
+start_of array n = StartArray (Some n)
+start_of dictionary n = StartDictionary (Some n)

@@ -1,9 +1,9 @@
 -- What is due in an open container is the element of its references at the position, or its end.
-use Rattle.std.specs.Prelude.{Bool, ◌⊎◌, length}
+use Rattle.std.proofs.Math.Option.{some}
+use Rattle.std.specs.Prelude.{Bool, ◌⊎◌, length, None, Some, Option}
 use Rattle.std.proofs.Math.Bool.{true, false}
 use mathlib.Core.List.{List, [], ◌∷◌, map}
 use Rattle.std.proofs.Common.{inl, inr, ◌∙◌, suc-mul, add-mul}
-use Rattle.std.proofs.Math.Option.{Option, none, some}
 use Rattle.std.proofs.Math.Path.{◌≡◌, refl, sym, ap}
 use Prim.Native.Nat.{ℕ, zero, suc, ◌+◌, ◌*◌, ◌/◌, ◌%◌, ◌≤◌, ◌<◌}
 use Rattle.std.proofs.Math.Nat.{zero-mul}
@@ -21,14 +21,12 @@ use Rattle.layout.specs.Layout.{number_at, entry_at, place_in, given, due_at, in
 use Rattle.layout.specs.declared.frame.Frame.{Frame}
 use Rattle.layout.specs.declared.layout.Due.{Due}
 use Rattle.layout.specs.declared.layout.Due.TheVariants.{Wrong, Close, Member}
-use Rattle.layout.specs.declared.layout.Entry.{Entry}
-use Rattle.layout.specs.declared.layout.Entry.TheVariants.{Of, Outside}
 use Rattle.layout.specs.declared.layout.Layout.{Layout}
 use Rattle.layout.specs.declared.layout.Standing.{Standing}
 use Rattle.layout.specs.References.{length_of, row, in_turn, entries_in, number_in, references, entries_of, references_of}
 
 -- what is due at a position among references of a container at an offset
-unfoldable pub element_of : ℕ → List Entry → ℕ → Due
+unfoldable pub element_of : ℕ → List (Option ℕ) → ℕ → Due
 element_of offset [] zero = Close offset
 element_of offset [] (suc p) = Wrong
 element_of offset (e ∷ es) zero = given e
@@ -83,20 +81,20 @@ module _ (file : List ℕ) (w : Width) where
 
 -- the element at a position: the end at their number, nothing past it
 module _ (offset : ℕ) where
-  pub element_at : (es : List Entry) (p : ℕ) (e : Entry) → get_elem? es p ≡ some e → element_of offset es p ≡ given e
+  pub element_at : (es : List (Option ℕ)) (p : ℕ) (e : Option ℕ) → get_elem? es p ≡ some e → element_of offset es p ≡ given e
   unfolding element_of
   element_at [] p e h = let z : ◌≡◌ {A = ℕ} 0 1 = cc in absurd (omega arith)
   element_at (x ∷ xs) zero e h = let q : x ≡ e = cc in rw q
   element_at (x ∷ xs) (suc p) e h = element_at xs p e h
 
-  pub element_end : (es : List Entry) (p : ℕ) → p ≡ length es → element_of offset es p ≡ Close offset
+  pub element_end : (es : List (Option ℕ)) (p : ℕ) → p ≡ length es → element_of offset es p ≡ Close offset
   unfolding element_of
   element_end [] zero h = refl
   element_end [] (suc p) h = absurd (omega arith)
   element_end (x ∷ xs) zero h = absurd (omega arith)
   element_end (x ∷ xs) (suc p) h = element_end xs p (omega arith)
 
-  pub element_past : (es : List Entry) (p : ℕ) → length es < p → element_of offset es p ≡ Wrong
+  pub element_past : (es : List (Option ℕ)) (p : ℕ) → length es < p → element_of offset es p ≡ Wrong
   unfolding element_of
   element_past [] zero h = absurd (omega arith)
   element_past [] (suc p) h = refl
@@ -104,7 +102,7 @@ module _ (offset : ℕ) where
   element_past (x ∷ xs) (suc p) h = element_past xs p (omega arith)
 
 module _ (file : List ℕ) (l : Layout) (f : Frame) (offset : ℕ) where
-  listed : (es : List Entry) (n start place : ℕ) → length es ≡ n
+  listed : (es : List (Option ℕ)) (n start place : ℕ) → length es ≡ n
       → (f.position < n → get_elem? es f.position ≡ some (number_at file l.refs (start + place * bytes_in l.refs)))
       → due_at file l.refs offset start n place f.position ≡ element_of offset es f.position
   unfolding due_at
@@ -120,14 +118,14 @@ module _ (file : List ℕ) (l : Layout) (f : Frame) (offset : ℕ) where
           rw (p, q) (sym (element_past offset es f.position (omega arith)))
 
   -- in a container of another length nothing is due
-  pub due_other : (c : Container) → (length_of c ≡ some f.length → ⊥) → due_in file l f offset c ≡ Wrong
+  pub due_other : (c : Container) → (length_of c ≡ Some f.length → ⊥) → due_in file l f offset c ≡ Wrong
   unfolding due_in in_array in_dictionary length_of
   due_other NoContainer h = refl
-  due_other (Array e) h = rw (ne_eqb e.count f.length (λ q. h (ap some q)))
-  due_other (Dictionary e) h = rw (ne_eqb e.count f.length (λ q. h (ap some q)))
+  due_other (Array e) h = rw (ne_eqb e.count f.length (λ q. h (ap Some q)))
+  due_other (Dictionary e) h = rw (ne_eqb e.count f.length (λ q. h (ap Some q)))
 
   -- in one of the frame's length its reference at the position, or its end
-  pub due_listed : (c : Container) → length_of c ≡ some f.length → due_in file l f offset c ≡ element_of offset (entries_in file l.refs c) f.position
+  pub due_listed : (c : Container) → length_of c ≡ Some f.length → due_in file l f offset c ≡ element_of offset (entries_in file l.refs c) f.position
   unfolding due_in in_array in_dictionary length_of entries_in
   due_listed NoContainer h = let z : ◌≡◌ {A = ℕ} 0 1 = cc in absurd (omega arith)
   due_listed (Array e) h =
@@ -143,15 +141,15 @@ unfolding due_of
 due_here file l f = refl
 
 -- the references of an object are those of what stands at its offset
-pub references_at : (file : List ℕ) (l : Layout) (n offset : ℕ) → n < l.count → entry_at file l n ≡ Of offset → references_of file l n ≡ references file l.refs offset
+pub references_at : (file : List ℕ) (l : Layout) (n offset : ℕ) → n < l.count → entry_at file l n ≡ Some offset → references_of file l n ≡ references file l.refs offset
 unfolding references_of entries_of references stands_at stands_from
 references_at file l n offset h e = rw (lt-ltb _ _ h, e)
 
 -- the number of an element
-number_at_law : (es : List Entry) (p n : ℕ) → get_elem? es p ≡ some (Of n) → get_elem? (map number_in es) p ≡ some n
+number_at_law : (es : List (Option ℕ)) (p n : ℕ) → get_elem? es p ≡ some (Some n) → get_elem? (map number_in es) p ≡ some n
 unfolding number_in
 number_at_law [] p n h = let z : ◌≡◌ {A = ℕ} 0 1 = cc in absurd (omega arith)
-number_at_law (e ∷ es) zero n h = let q : e ≡ Of n = cc in rw q
+number_at_law (e ∷ es) zero n h = let q : e ≡ Some n = cc in rw q
 number_at_law (e ∷ es) (suc p) n h = number_at_law es p n h
 
 -- What is due in a frame, whatever it says: nothing; the end, at the number of its object's references; or the reference at its position
@@ -161,32 +159,32 @@ Dues file l f (Close offset) = (offset ≡ (stands_in file l f).offset) × (f.po
 Dues file l f (Member n) = get_elem? (references_of file l f.object) f.position ≡ some n
 
 -- the same among references
-abbrev Elements : ℕ → List Entry → ℕ → Due → Type 0
+abbrev Elements : ℕ → List (Option ℕ) → ℕ → Due → Type 0
 Elements offset es p Wrong = Unit {0}
 Elements offset es p (Close o) = (o ≡ offset) × (p ≡ length es)
-Elements offset es p (Member n) = get_elem? es p ≡ some (Of n)
+Elements offset es p (Member n) = get_elem? es p ≡ some (Some n)
 
-deeper : (offset : ℕ) (e : Entry) (es : List Entry) (p : ℕ) (d : Due) → Elements offset es p d → Elements offset (e ∷ es) (suc p) d
+deeper : (offset : ℕ) (e : Option ℕ) (es : List (Option ℕ)) (p : ℕ) (d : Due) → Elements offset es p d → Elements offset (e ∷ es) (suc p) d
 deeper offset e es p Wrong h = tt
 deeper offset e es p (Close o) h = (h.0, ap suc h.1)
 deeper offset e es p (Member n) h = h
 
-elements : (offset : ℕ) (es : List Entry) (p : ℕ) → Elements offset es p (element_of offset es p)
+elements : (offset : ℕ) (es : List (Option ℕ)) (p : ℕ) → Elements offset es p (element_of offset es p)
 unfolding element_of given
 elements offset [] zero = (refl, refl)
 elements offset [] (suc p) = tt
-elements offset (Of n ∷ es) zero = refl
-elements offset (Outside ∷ es) zero = tt
-elements offset (Of n ∷ es) (suc p) = deeper offset (Of n) es p (element_of offset es p) (elements offset es p)
-elements offset (Outside ∷ es) (suc p) = deeper offset Outside es p (element_of offset es p) (elements offset es p)
+elements offset (Some n ∷ es) zero = refl
+elements offset (None ∷ es) zero = tt
+elements offset (Some n ∷ es) (suc p) = deeper offset (Some n) es p (element_of offset es p) (elements offset es p)
+elements offset (None ∷ es) (suc p) = deeper offset None es p (element_of offset es p) (elements offset es p)
 
 -- whether a length is this
-pub same_length : (o : Option ℕ) (k : ℕ) → (o ≡ some k) ⊎ (o ≡ some k → ⊥)
-same_length none k = inr (λ e. let z : ◌≡◌ {A = ℕ} 0 1 = cc in omega arith)
-same_length (some n) k = go (eqb n k) refl
+pub same_length : (o : Option ℕ) (k : ℕ) → (o ≡ Some k) ⊎ (o ≡ Some k → ⊥)
+same_length None k = inr (λ e. let z : ◌≡◌ {A = ℕ} 0 1 = cc in omega arith)
+same_length (Some n) k = go (eqb n k) refl
   where
-    go : (b : Bool) → eqb n k ≡ b → (some n ≡ some k) ⊎ (some n ≡ some k → ⊥)
-    go true e = inl (ap some (eqb-true _ _ e))
+    go : (b : Bool) → eqb n k ≡ b → (Some n ≡ Some k) ⊎ (Some n ≡ Some k → ⊥)
+    go true e = inl (ap Some (eqb-true _ _ e))
     go false e = inr (λ q. eqb-false n k e cc)
 
 module _ (file : List ℕ) (l : Layout) (f : Frame) where
@@ -195,18 +193,18 @@ module _ (file : List ℕ) (l : Layout) (f : Frame) where
 
   -- a container that stands where it was kept stands where its entry says
   abbrev Here : Standing → Standing → Type 0
-  Here s t = length_of s.container ≡ some f.length → s ≡ t
+  Here s t = length_of s.container ≡ Some f.length → s ≡ t
 
   not_here : (t : Standing) → Here nowhere t
   unfolding length_of
   not_here t e = let z : ◌≡◌ {A = ℕ} 0 1 = cc in absurd (omega arith)
 
-  kept_entry : (x : Entry) → Here (kept_from file f.offset x) (stands_from file x)
+  kept_entry : (x : Option ℕ) → Here (kept_from file f.offset x) (stands_from file x)
   unfolding kept_from stands_from
-  kept_entry Outside = not_here nowhere
-  kept_entry (Of o) = either (λ (s : Standing). Here s (stands_from file (Of o))) (eqb o f.offset) _ _ (λ h e. refl) (λ h. not_here _)
+  kept_entry None = not_here nowhere
+  kept_entry (Some o) = either (λ (s : Standing). Here s (stands_from file (Some o))) (eqb o f.offset) _ _ (λ h e. refl) (λ h. not_here _)
 
-  pub kept_stands : length_of stand.container ≡ some f.length → stand ≡ stands_at file l f.object
+  pub kept_stands : length_of stand.container ≡ Some f.length → stand ≡ stands_at file l f.object
   unfolding stands_in stands_at
   kept_stands = go (ltb f.object l.count) refl
     where
@@ -221,17 +219,17 @@ module _ (file : List ℕ) (l : Layout) (f : Frame) where
   as_numbers (Member n) h = number_at_law (entries_of file l f.object) f.position n h
 
   -- in a frame whose object isn't a container of its length nothing is due
-  pub due_none : (length_of stand.container ≡ some f.length → ⊥) → due_of file l f ≡ Wrong
+  pub due_none : (length_of stand.container ≡ Some f.length → ⊥) → due_of file l f ≡ Wrong
   due_none h = due_here file l f ∙ due_other file l f stand.offset stand.container h
 
   -- else what its references say at the position
-  pub due_entry : length_of stand.container ≡ some f.length → due_of file l f ≡ element_of stand.offset (entries_of file l f.object) f.position
+  pub due_entry : length_of stand.container ≡ Some f.length → due_of file l f ≡ element_of stand.offset (entries_of file l f.object) f.position
   unfolding entries_of
   due_entry h = due_here file l f ∙ due_listed file l f stand.offset stand.container h ∙ ap (λ (s : Standing). element_of stand.offset (entries_in file l.refs s.container) f.position) (kept_stands h)
 
   pub dues : Dues file l f (due_of file l f)
   dues = go (same_length (length_of stand.container) f.length)
     where
-      go : (length_of stand.container ≡ some f.length) ⊎ (length_of stand.container ≡ some f.length → ⊥) → Dues file l f (due_of file l f)
+      go : (length_of stand.container ≡ Some f.length) ⊎ (length_of stand.container ≡ Some f.length → ⊥) → Dues file l f (due_of file l f)
       go (inl e) = rw (due_entry e) (as_numbers (element_of stand.offset (entries_of file l f.object) f.position) (elements stand.offset (entries_of file l f.object) f.position))
       go (inr h) = rw (due_none h) tt

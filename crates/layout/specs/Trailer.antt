@@ -1,9 +1,7 @@
 -- The trailer. docs/FORMAT.md, rules R2, R3 and R6, in the order of R6. The length limit stands before it, in `trailer_in` and in `next_of`.
-use Rattle.std.specs.Prelude.{Bool, true, false, cond, ◌&&◌, List, [], ◌∷◌, ℕ, ◌+◌, ◌*◌, ltb, leb, eqb, length, get_or}
+use Rattle.std.specs.Prelude.{Bool, true, false, cond, ◌&&◌, List, [], ◌∷◌, ℕ, ◌+◌, ◌*◌, ltb, leb, eqb, length, get_or, None, Option, Some}
 use Rattle.number.specs.Be.{be}
 use Rattle.number.specs.Width.{bytes_in, width_of}
-use Rattle.number.specs.declared.width.Size.{Size}
-use Rattle.number.specs.declared.width.Size.TheVariants.{Allowed, NotAllowed}
 use Rattle.number.specs.declared.width.Width.{Width}
 use Rattle.event.specs.Format.{max_length, magic}
 use Rattle.number.specs.Part.{part}
@@ -34,13 +32,13 @@ table_of file offsets refs =
     (ends 6 [] (eight_at file 24))
 
 -- the size of a reference: 5 leaves a fresh reader where it is 0, and ends it else (R6)
-unfoldable pub ref_size_of : List ℕ → Width → Size → Trailer
-ref_size_of file offsets (Allowed refs) = table_of file offsets refs
-ref_size_of file offsets NotAllowed = cond (eqb (get_or file (trailer_at file + 7) 0) 0) (keeps 5 [] (trailer_at file)) (ends 5 [] (trailer_at file))
+unfoldable pub ref_size_of : List ℕ → Width → Option Width → Trailer
+ref_size_of file offsets (Some refs) = table_of file offsets refs
+ref_size_of file offsets None = cond (eqb (get_or file (trailer_at file + 7) 0) 0) (keeps 5 [] (trailer_at file)) (ends 5 [] (trailer_at file))
 
-unfoldable pub sizes_of : List ℕ → Size → Trailer
-sizes_of file (Allowed offsets) = ref_size_of file offsets (width_of (get_or file (trailer_at file + 7) 0))
-sizes_of file NotAllowed = keeps 4 [] (trailer_at file)
+unfoldable pub sizes_of : List ℕ → Option Width → Trailer
+sizes_of file (Some offsets) = ref_size_of file offsets (width_of (get_or file (trailer_at file + 7) 0))
+sizes_of file None = keeps 4 [] (trailer_at file)
 
 unfoldable pub trailer_of : List ℕ → Trailer
 trailer_of file =

@@ -1,11 +1,9 @@
 -- What a trailer that is read tells.
-use Rattle.std.specs.Prelude.{true, List, ◌≡◌, ℕ, ◌+◌, ◌*◌, ltb, leb, eqb, length, get_or}
+use Rattle.std.specs.Prelude.{true, List, ◌≡◌, ℕ, ◌+◌, ◌*◌, ltb, leb, eqb, length, get_or, None, Option, Some}
 use Rattle.std.proofs.Math.Path.{refl}
 use borrow.Author.Tests.{leb-true}
 use Rattle.number.specs.Among.{among}
 use Rattle.number.specs.Width.{bytes_in, width_of}
-use Rattle.number.specs.declared.width.Size.{Size}
-use Rattle.number.specs.declared.width.Size.TheVariants.{Allowed, NotAllowed}
 use Rattle.number.specs.declared.width.Width.{Width}
 use Rattle.event.specs.Format.{magic}
 use Rattle.object.specs.Content.{trailer_at}
@@ -36,15 +34,15 @@ module _ (file : List ℕ) where
       (λ e. record { laid = leb-true _ _ e; counts = refl; roots = refl; tables = refl })
       (λ e. refl)
 
-  refs_tell : (offsets : Width) (s : Size) → Tells file (ref_size_of file offsets s)
+  refs_tell : (offsets : Width) (s : Option Width) → Tells file (ref_size_of file offsets s)
   unfolding ref_size_of trailer_keeps trailer_ends among
-  refs_tell offsets (Allowed refs) = table_tells offsets refs
-  refs_tell offsets NotAllowed = either (Tells file) (eqb (get_or file (trailer_at file + 7) 0) 0) _ _ (λ e. refl) (λ e. refl)
+  refs_tell offsets (Some refs) = table_tells offsets refs
+  refs_tell offsets None = either (Tells file) (eqb (get_or file (trailer_at file + 7) 0) 0) _ _ (λ e. refl) (λ e. refl)
 
-  sizes_tell : (s : Size) → Tells file (sizes_of file s)
+  sizes_tell : (s : Option Width) → Tells file (sizes_of file s)
   unfolding sizes_of trailer_keeps among
-  sizes_tell (Allowed offsets) = refs_tell offsets (width_of (get_or file (trailer_at file + 7) 0))
-  sizes_tell NotAllowed = refl
+  sizes_tell (Some offsets) = refs_tell offsets (width_of (get_or file (trailer_at file + 7) 0))
+  sizes_tell None = refl
 
   pub tells : Tells file (trailer_of file)
   unfolding trailer_of trailer_keeps among

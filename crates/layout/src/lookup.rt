@@ -5,9 +5,9 @@ ghost use Rattle.layout.specs.Looked.{with_place, start_of};
 ghost use Rattle.layout.specs.Bytes.{looked_bytes};
 ghost use Rattle.layout.specs.Said.{look_said, look_bytes, shape_said};
 
-use crate::layout::{Entry, Layout, entry_at};
+use crate::layout::{Layout, entry_at};
 use crate::refusal::Refusal;
-use event::{Event, Length};
+use event::Event;
 use object::read::{Object, Part, object_at};
 use object::refusal::Refusal as ObjectRefusal;
 
@@ -37,6 +37,7 @@ pub enum Look {
 
 // The object of a number: its entry of the offset table, then what stands there. The place is the last offset sought, which a refusal
 // carries where nothing is sought.
+#[tactic(auto, using(crate::proofs::Looks::looks), unfolding(crate::proofs::Looks::looked),)]
 pub fn look_up(file: &[u8], layout: Layout, object: u64, place: u64) -> Look
     ensures result_value { look_said result ≡ with_place place (look_of file.now layout object) }
     ensures result_value_2 { look_bytes result ≡ looked_bytes file.now (look_of file.now layout object) }
@@ -44,7 +45,7 @@ pub fn look_up(file: &[u8], layout: Layout, object: u64, place: u64) -> Look
     if layout.count as u64 <= object {
         return Look::Refused(Refusal::ObjectReferenceTooLarge, place);
     }
-    let Entry::Of(offset) = entry_at(file, layout, object as u32) else {
+    let Some(offset) = entry_at(file, layout, object as u32) else {
         return Look::Missing;
     };
     let refs = layout.refs;
@@ -64,11 +65,12 @@ pub fn look_up(file: &[u8], layout: Layout, object: u64, place: u64) -> Look
 }
 
 // The event that a container begins with.
+#[tactic(auto, unfolding(crate::specs::Looked::start_of, crate::specs::Said::shape_said))]
 pub fn start_of(shape: Shape, length: u64) -> Event
     ensures { result ≡ start_of (shape_said shape) length }
 {
     match shape {
-        Shape::Array => Event::StartArray(Length::Given(length)),
-        Shape::Dictionary => Event::StartDictionary(Length::Given(length)),
+        Shape::Array => Event::StartArray(Some(length)),
+        Shape::Dictionary => Event::StartDictionary(Some(length)),
     }
 }

@@ -7,10 +7,11 @@ ghost use Rattle.layout.specs.Said.{trailer_said};
 ghost use Rattle.event.specs.Format.{max_length};
 ghost use Rattle.layout.specs.Trailer.{trailer_in, trailer_of, sizes_of, table_of};
 
-use crate::layout::{Entry, Layout, number_at};
+use crate::layout::Layout;
 use crate::refusal::Refusal;
 use event::limits::MAX_LENGTH;
-use number::width::{Size, Width, bytes_in, width_of};
+use number::be::read_eight;
+use number::width::{Width, bytes_in, width_of};
 use object::refusal::Refusal as ObjectRefusal;
 
 // A refusal that leaves the reader as it was, one that ends it, or the layout and the root's number.
@@ -21,10 +22,8 @@ pub enum TrailerRead {
     Lays(Layout, u64),
 }
 
-// "bplist00" as a number.
-const MAGIC: u64 = 0x6270_6c69_7374_3030;
-
 // The length limit stands before all else.
+#[tactic(auto, unfolding(crate::proofs::Rules::trailers, crate::specs::Trailer::trailer_in))]
 pub fn trailer_of(file: &[u8]) -> TrailerRead
     ensures { trailer_said result ≡ trailer_in file.now }
 {
@@ -34,6 +33,7 @@ pub fn trailer_of(file: &[u8]) -> TrailerRead
     read_trailer(file)
 }
 
+#[tactic(auto, using(crate::proofs::Magic::has_magic), unfolding(crate::proofs::Rules::trailers, crate::specs::Trailer::trailer_of))]
 fn read_trailer(file: &[u8]) -> TrailerRead
     requires { length file.now ≤ max_length }
     ensures { trailer_said result ≡ trailer_of file.now }
@@ -41,7 +41,7 @@ fn read_trailer(file: &[u8]) -> TrailerRead
     if file.len() < 8 {
         return TrailerRead::Keeps(Refusal::EndOfInput, 0);
     }
-    if eight_at(file, 0) != MAGIC {
+    if !file.starts_with(b"bplist00") {
         return TrailerRead::Keeps(Refusal::InvalidMagic, 0);
     }
     if file.len() < 32 {
@@ -51,16 +51,17 @@ fn read_trailer(file: &[u8]) -> TrailerRead
 }
 
 // The two sizes.
+#[tactic(auto, unfolding(crate::proofs::Rules::trailers, crate::specs::Trailer::sizes_of, crate::specs::Trailer::ref_size_of))]
 fn read_sizes(file: &[u8]) -> TrailerRead
     requires { (32 ≤ length file.now) × (length file.now ≤ max_length) }
     ensures { trailer_said result ≡ sizes_of file.now (width_of (get_or file.now (length file.now - 32 + 6) 0)) }
 {
     let top = file.len() - 32;
-    let Size::Allowed(offsets) = width_of(file[top + 6]) else {
+    let Some(offsets) = width_of(file[top + 6]) else {
         return TrailerRead::Keeps(Refusal::InvalidTrailerObjectOffsetSize, top as u64);
     };
     let size = file[top + 7];
-    let Size::Allowed(refs) = width_of(size) else {
+    let Some(refs) = width_of(size) else {
         // The Rust keeps the size it read, and a size of zero means that it has read no trailer yet.
         if size == 0 {
             return TrailerRead::Keeps(Refusal::InvalidTrailerObjectReferenceSize, top as u64);
@@ -71,6 +72,7 @@ fn read_sizes(file: &[u8]) -> TrailerRead
 }
 
 // The three numbers, and whether the table ends before the trailer.
+#[tactic(auto, using(crate::proofs::Rules::tables), unfolding(crate::proofs::Rules::trailers, crate::specs::Trailer::table_of))]
 fn read_table(file: &[u8], offsets: Width, refs: Width) -> TrailerRead
     requires { (32 ≤ length file.now) × (length file.now ≤ max_length) }
     ensures { trailer_said result ≡ table_of file.now offsets refs }
@@ -79,10 +81,7 @@ fn read_table(file: &[u8], offsets: Width, refs: Width) -> TrailerRead
     let count = eight_at(file, top + 8);
     let root = eight_at(file, top + 16);
     let table = eight_at(file, top + 24);
-    if (top as u64) < table {
-        return TrailerRead::Ends(Refusal::Object(ObjectRefusal::ObjectOffsetTooLarge), table);
-    }
-    if (top as u64 - table) / (bytes_in(offsets) as u64) < count {
+    if (top as u64) < table || (top as u64 - table) / (bytes_in(offsets) as u64) < count {
         return TrailerRead::Ends(Refusal::Object(ObjectRefusal::ObjectOffsetTooLarge), table);
     }
     TrailerRead::Lays(
@@ -101,8 +100,5 @@ fn eight_at(file: &[u8], at: usize) -> u64
     requires { at + 8 ≤ length file.now }
     ensures { result ≡ be (part file.now at 8) }
 {
-    let Entry::Of(n) = number_at(file, Width::Eight, at) else {
-        return 0;
-    };
-    n
+    read_eight(&file[at..at + 8])
 }

@@ -1,6 +1,5 @@
 -- Computed lines: the listing of P10 of docs/FORMAT.md and its trace, whole; and both ends of what a line can hold.
-use Rattle.std.specs.Prelude.{true, false, [], ◌∷◌, ◌++◌, map, ◌≡◌, refl, pos, negsuc}
-use Rattle.std.proofs.Math.Option.{none, some}
+use Rattle.std.specs.Prelude.{true, false, [], ◌∷◌, ◌++◌, map, ◌≡◌, refl, pos, negsuc, None, Some}
 use Rattle.event.specs.Meaning.{array, dictionary, close, boolean, bytes, date, integer, real, text, uid}
 use Rattle.digits.specs.Ascii.{ascii}
 use Rattle.line.specs.Computed.{computed}
@@ -8,11 +7,11 @@ use Rattle.line.specs.Line.{line_of, trace_of, refusal_line}
 use Rattle.line.specs.Put.{fixed_line}
 use Rattle.line.specs.declared.put.Fixed.TheVariants.{Events, End, Stopped}
 
-pub p10 : fixed_line Events ++ line_of (array (some 3)) ++ line_of (integer (pos 1)) ++ line_of (text (0x61 ∷ [])) ++ line_of (integer (pos 1)) ++ line_of close ++ fixed_line End ≡ ascii "events\narray 3\nint 1\nstr 1 61\nint 1\nclose\nend\n"
+pub p10 : fixed_line Events ++ line_of (array (Some 3)) ++ line_of (integer (pos 1)) ++ line_of (text (0x61 ∷ [])) ++ line_of (integer (pos 1)) ++ line_of close ++ fixed_line End ≡ ascii "events\narray 3\nint 1\nstr 1 61\nint 1\nclose\nend\n"
 unfolding computed
 p10 = refl
 
-pub p10_trace : fixed_line Events ++ trace_of 0 8 (array (some 3)) ++ trace_of 1 12 (integer (pos 1)) ++ trace_of 2 14 (text (0x61 ∷ [])) ++ trace_of 1 12 (integer (pos 1)) ++ trace_of 0 8 close ++ fixed_line End ≡ ascii "events\narray 3 #0 @8\nint 1 #1 @12\nstr 1 61 #2 @14\nint 1 #1 @12\nclose #0 @8\nend\n"
+pub p10_trace : fixed_line Events ++ trace_of 0 8 (array (Some 3)) ++ trace_of 1 12 (integer (pos 1)) ++ trace_of 2 14 (text (0x61 ∷ [])) ++ trace_of 1 12 (integer (pos 1)) ++ trace_of 0 8 close ++ fixed_line End ≡ ascii "events\narray 3 #0 @8\nint 1 #1 @12\nstr 1 61 #2 @14\nint 1 #1 @12\nclose #0 @8\nend\n"
 unfolding computed
 p10_trace = refl
 
@@ -22,7 +21,7 @@ unfolding computed
 far = refl
 
 -- the other kinds, and a container whose length is not given
-pub others : line_of (dictionary (some 10)) ++ line_of (boolean true) ++ line_of (boolean false) ++ line_of (uid 7) ++ line_of (array none) ≡ ascii "dict 10\ntrue\nfalse\nuid 7\narray\n"
+pub others : line_of (dictionary (Some 10)) ++ line_of (boolean true) ++ line_of (boolean false) ++ line_of (uid 7) ++ line_of (array None) ≡ ascii "dict 10\ntrue\nfalse\nuid 7\narray\n"
 unfolding computed
 others = refl
 

@@ -1,6 +1,5 @@
 -- The lines of a listing, and of one that says of each event where it comes from. docs/FORMAT.md, rules L1 to L3, L8 and L9.
-use Rattle.std.specs.Prelude.{Bool, true, false, cond, List, [], ◌∷◌, ◌++◌, ℕ, ◌+◌, ◌/◌, ◌%◌, ltb, length}
-use Rattle.std.proofs.Math.Option.{Option, none, some}
+use Rattle.std.specs.Prelude.{Bool, true, false, cond, List, [], ◌∷◌, ◌++◌, ℕ, ◌+◌, ◌/◌, ◌%◌, ltb, length, None, Option, Some}
 use Rattle.number.specs.Be.{bytes_of}
 use Rattle.calendar.specs.Date.{Said, gives, refused, calendar_of}
 use Rattle.calendar.specs.declared.Time.{Time}
@@ -37,8 +36,8 @@ ended r mark = r ++ (mark ++ (10 ∷ []))
 
 -- a container's length stands where it is known
 unfoldable pub length_given : Option ℕ → List ℕ
-length_given (some n) = spaced (decimal n)
-length_given none = []
+length_given (Some n) = spaced (decimal n)
+length_given None = []
 
 unfoldable pub truth : Bool → List ℕ
 truth true = ascii "true"

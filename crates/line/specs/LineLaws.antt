@@ -1,12 +1,11 @@
 -- How long the parts of a line are; what the line of an event is with a mark and without.
-use Rattle.std.specs.Prelude.{List, [], ◌∷◌, ◌≡◌, refl, ℕ, ◌+◌, ◌*◌, length}
+use Rattle.std.specs.Prelude.{List, [], ◌∷◌, ◌≡◌, refl, ℕ, ◌+◌, ◌*◌, length, None, Some}
 use Rattle.std.proofs.Common.{arith, ne_eqb, length-append}
 use Rattle.digits.specs.Digits.{decimal}
 use Rattle.event.specs.Meaning.{Meaning}
 use Rattle.line.specs.Line.{hex, tail, spaced, row, ended, origin_of, labelled, line_of, trace_of, refusal_line}
 use Rattle.line.specs.Piece.{space_of, mark_of}
 use Rattle.line.specs.Put.{event_line}
-use Rattle.line.specs.declared.piece.Mark.TheVariants.{Nothing, Origin}
 
 pub length_hex : (s : List ℕ) → length (hex s) ≡ 2 * length s
 unfolding hex
@@ -47,10 +46,10 @@ length_refusal number place = simp (length-append, length_ended, length_row) (om
 
 -- ---- with a mark, and without
 
-pub line_plain : (m : Meaning) → event_line Nothing m ≡ line_of m
+pub line_plain : (m : Meaning) → event_line None m ≡ line_of m
 unfolding event_line mark_of line_of
 line_plain m = refl
 
-pub line_traced : (number offset : ℕ) (m : Meaning) → event_line (Origin number offset) m ≡ trace_of number offset m
+pub line_traced : (number offset : ℕ) (m : Meaning) → event_line (Some (record { number = number; offset = offset })) m ≡ trace_of number offset m
 unfolding event_line mark_of trace_of
 line_traced number offset m = refl

@@ -1,23 +1,22 @@
 -- What follows a line's word and what stands behind a line, and how long a line is.
-use Rattle.std.specs.Prelude.{cond, List, [], ℕ, ◌+◌, ◌*◌, eqb}
+use Rattle.std.specs.Prelude.{cond, List, [], ℕ, ◌+◌, ◌*◌, eqb, Option, None, Some}
 use Rattle.digits.specs.Digits.{decimal, signed}
 use Rattle.digits.specs.Stamp.{stamp}
 use Rattle.event.specs.Meaning.{value_of}
 use Rattle.line.specs.Line.{spaced, origin_of}
-use Rattle.line.specs.declared.piece.Mark.{Mark}
-use Rattle.line.specs.declared.piece.Mark.TheVariants.{Nothing as NoMark, Origin}
+use Rattle.line.specs.declared.piece.Origin.{Origin}
 use Rattle.line.specs.declared.piece.Numeral.{Numeral}
-use Rattle.line.specs.declared.piece.Numeral.TheVariants.{Nothing, Number, Integer, Stamp}
+use Rattle.line.specs.declared.piece.Numeral.TheVariants.{Number, Integer, Stamp}
 
-unfoldable pub numeral_of : Numeral → List ℕ
-numeral_of Nothing = []
-numeral_of (Number n) = spaced (decimal n)
-numeral_of (Integer i) = spaced (signed (value_of i))
-numeral_of (Stamp t) = spaced (stamp t)
+unfoldable pub numeral_of : Option Numeral → List ℕ
+numeral_of None = []
+numeral_of (Some (Number n)) = spaced (decimal n)
+numeral_of (Some (Integer i)) = spaced (signed (value_of i))
+numeral_of (Some (Stamp t)) = spaced (stamp t)
 
-unfoldable pub mark_of : Mark → List ℕ
-mark_of NoMark = []
-mark_of (Origin number offset) = origin_of number offset
+unfoldable pub mark_of : Option Origin → List ℕ
+mark_of None = []
+mark_of (Some o) = origin_of o.number o.offset
 
 -- the space before bytes, where there are any
 unfoldable pub space_of : ℕ → ℕ

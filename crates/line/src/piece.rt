@@ -9,20 +9,19 @@ use digits::decimal::{decimal_length, put_decimal, put_signed, signed_length};
 use digits::stamp::{STAMP_LENGTH, put_stamp};
 use event::Integer;
 
-// What follows a line's word: nothing, a number, one with its sign, or a day and time.
+// What may follow a line's word: a number, one with its sign, or a day and time.
 #[derive(Clone, Copy)]
 pub enum Numeral {
-    Nothing,
     Number(u64),
     Integer(Integer),
     Stamp(Time),
 }
 
-// What stands behind a line: nothing, or the number and the offset of the object that it comes from.
+// What may stand behind a line: the number and the offset of the object that it comes from.
 #[derive(Clone, Copy)]
-pub enum Mark {
-    Nothing,
-    Origin(u64, u64),
+pub struct Origin {
+    pub number: u64,
+    pub offset: u64,
 }
 
 // Two hex digits for each byte.
@@ -30,18 +29,16 @@ fn write_hex(out: &mut [u8], at: usize, s: &[u8]) -> usize
     requires { at + length (hex s.now) ≤ length out.old }
     ensures { Written out.old at (hex s.now) out.new result }
 {
-    let mut i: usize = 0;
-    let mut to: usize = at;
-    while i < s.len() {
-        let byte = s[i];
+    let mut to = at;
+    for &byte in s {
         out[to] = hex_digit(byte / 16);
         out[to + 1] = hex_digit(byte % 16);
         to += 2;
-        i += 1;
     }
     to
 }
 
+#[tactic(auto, unfolding(crate::specs::Line::hex_digit))]
 fn hex_digit(n: u8) -> u8
     requires { n < 16 }
     ensures { result ≡ hex_digit n }
@@ -62,23 +59,23 @@ pub(crate) fn write_tail(out: &mut [u8], at: usize, s: &[u8]) -> usize
 }
 
 // A space and what follows the word, where there is something.
-pub(crate) fn write_numeral(out: &mut [u8], at: usize, number: Numeral) -> usize
+pub(crate) fn write_numeral(out: &mut [u8], at: usize, number: Option<Numeral>) -> usize
     requires { at + length (numeral_of number) ≤ length out.old }
     ensures { Written out.old at (numeral_of number) out.new result }
 {
     match number {
-        Numeral::Nothing => at,
-        Numeral::Number(n) => {
+        None => at,
+        Some(Numeral::Number(n)) => {
             out[at] = b' ';
             put_decimal(out, at + 1, n);
             at + 1 + decimal_length(n)
         }
-        Numeral::Integer(integer) => {
+        Some(Numeral::Integer(integer)) => {
             out[at] = b' ';
             put_signed(out, at + 1, integer);
             at + 1 + signed_length(integer)
         }
-        Numeral::Stamp(time) => {
+        Some(Numeral::Stamp(time)) => {
             out[at] = b' ';
             put_stamp(out, at + 1, time);
             at + 1 + STAMP_LENGTH
@@ -87,26 +84,27 @@ pub(crate) fn write_numeral(out: &mut [u8], at: usize, number: Numeral) -> usize
 }
 
 // How many bytes a numeral takes.
-pub(crate) fn numeral_length(number: Numeral) -> usize
+#[tactic(auto, using(digits::specs::StampLaws::length_stamp), unfolding(crate::specs::Piece::numeral_of, crate::specs::Line::spaced))]
+pub(crate) fn numeral_length(number: Option<Numeral>) -> usize
     ensures value { result ≡ length (numeral_of number) }
     ensures upper_bound { result ≤ 21 }
 {
     match number {
-        Numeral::Nothing => 0,
-        Numeral::Number(n) => 1 + decimal_length(n),
-        Numeral::Integer(integer) => 1 + signed_length(integer),
-        Numeral::Stamp(_) => 1 + STAMP_LENGTH,
+        None => 0,
+        Some(Numeral::Number(n)) => 1 + decimal_length(n),
+        Some(Numeral::Integer(integer)) => 1 + signed_length(integer),
+        Some(Numeral::Stamp(_)) => 1 + STAMP_LENGTH,
     }
 }
 
 // ` #number @offset`, where there is an origin.
-pub(crate) fn write_mark(out: &mut [u8], at: usize, mark: Mark) -> usize
+pub(crate) fn write_mark(out: &mut [u8], at: usize, mark: Option<Origin>) -> usize
     requires { at + length (mark_of mark) ≤ length out.old }
     ensures { Written out.old at (mark_of mark) out.new result }
 {
     match mark {
-        Mark::Nothing => at,
-        Mark::Origin(number, offset) => {
+        None => at,
+        Some(Origin { number, offset }) => {
             let offset_at = write_labelled(out, at, b'#', number);
             write_labelled(out, offset_at, b'@', offset)
         }
@@ -125,12 +123,13 @@ fn write_labelled(out: &mut [u8], at: usize, label: u8, n: u64) -> usize
 }
 
 // How many bytes a mark takes.
-pub(crate) fn mark_length(mark: Mark) -> usize
+#[tactic(auto, using(crate::specs::LineLaws::length_origin), unfolding(crate::specs::Piece::mark_of))]
+pub(crate) fn mark_length(mark: Option<Origin>) -> usize
     ensures value { result ≡ length (mark_of mark) }
     ensures upper_bound { result ≤ 44 }
 {
     match mark {
-        Mark::Nothing => 0,
-        Mark::Origin(number, offset) => 4 + decimal_length(number) + decimal_length(offset),
+        None => 0,
+        Some(Origin { number, offset }) => 4 + decimal_length(number) + decimal_length(offset),
     }
 }

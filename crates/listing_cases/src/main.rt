@@ -10,30 +10,34 @@ use std::rt::Files;
 use std::{fs, io};
 
 fn main(rt: HostRuntime) -> io::Result<()> {
-    show(&rt, "p10")?;
-    show(&rt, "dates")?;
-    show(&rt, "magic")?;
-    show(&rt, "short")?;
-    show(&rt, "sizes")?;
-    show(&rt, "recursive")?;
-    show(&rt, "surrogate")?;
-    show(&rt, "wide")?;
+    for name in [
+        "p10",
+        "dates",
+        "magic",
+        "short",
+        "sizes",
+        "recursive",
+        "surrogate",
+        "wide",
+    ] {
+        show(&rt, name)?;
+    }
     fill(&rt)?;
     show(&rt, "zeros")?;
     lengthen(&rt)?;
     show(&rt, "zeros")?;
     // 512 arrays, each inside the last; 513
-    count(&rt, "deep-512")?;
-    count(&rt, "deep-513")?;
+    for name in ["deep-512", "deep-513"] {
+        count(&rt, name)?;
+    }
     // 65,535 events; one more, which are as many as are listed; 65,540
-    count(&rt, "events-65535")?;
-    count(&rt, "events-65536")?;
-    count(&rt, "events-65540")?;
-    trace(&rt, "p10")?;
-    trace(&rt, "dates")?;
-    trace(&rt, "recursive")?;
-    trace(&rt, "wide")?;
-    trace(&rt, "zeros")
+    for name in ["events-65535", "events-65536", "events-65540"] {
+        count(&rt, name)?;
+    }
+    for name in ["p10", "dates", "recursive", "wide", "zeros"] {
+        trace(&rt, name)?;
+    }
+    Ok(())
 }
 
 fn show(rt: &(impl Files + Print), name: &str) -> io::Result<()> {
@@ -90,10 +94,11 @@ fn newlines(lines: &[u8]) -> u64 {
 
 // What stands behind the last newline but one.
 fn say_last(rt: &impl Print, lines: &[u8]) -> io::Result<()> {
-    for start in (1..lines.len()).rev() {
-        if lines[start - 1] == b'\n' {
-            return rt.write_all(&lines[start..]);
-        }
+    let [front @ .., _] = lines else {
+        return Ok(());
+    };
+    match front.iter().rposition(|byte| *byte == b'\n') {
+        Some(end) => rt.write_all(&lines[end + 1..]),
+        None => Ok(()),
     }
-    Ok(())
 }

@@ -1,14 +1,12 @@
 -- Key by key: what is left of the path, from the value that was found.
-use Rattle.std.specs.Prelude.{Bool, true, false, cond, List, [], ◌≡◌, refl, ℕ, ◌-◌, ◌≤◌, eqb, length}
+use Rattle.std.specs.Prelude.{Bool, true, false, cond, List, [], ◌≡◌, refl, ℕ, ◌-◌, ◌≤◌, eqb, length, None, Some, Option}
 use Rattle.std.proofs.lemmas.Bool.{false≢true}
 use Rattle.std.proofs.Common.{true≢false, ap₂, sym, arith}
-use Rattle.std.proofs.Math.Option.{Option, none, some}
 use Rattle.number.specs.BeLaws.{Bytes}
 use Rattle.event.specs.Meaning.{Meaning}
 use Rattle.tape.specs.Events.{tape_of, meant_by, meanings_in}
 use Rattle.tape.proofs.EventsLaws.{whole_is}
 use Rattle.tape.specs.Value.{number_at}
-use Rattle.tape.specs.declared.value.Value.TheVariants as value
 use Rattle.grammar.specs.Check.{check_of}
 use Rattle.grammar.specs.FitsLaws.{check_whole}
 use Rattle.grammar.specs.Said as check
@@ -22,16 +20,16 @@ use Rattle.lookup.proofs.ValueLaws.{value_long}
 
 module _ (tape key : List ℕ) (ms : List Meaning) where
   -- a step that leads nowhere
-  pub by_stop : (o : Option (List (List ℕ))) → is_some o ≡ true → into key ms ≡ none → by_path tape (with_key key o) ms ≡ not_found
+  pub by_stop : (o : Option (List (List ℕ))) → is_some o ≡ true → into key ms ≡ None → by_path tape (with_key key o) ms ≡ not_found
   unfolding is_some with_key by_path from_path placed
-  by_stop none e f = absurd (false≢true e)
-  by_stop (some keys) e f = rw (f, from_path)
+  by_stop None e f = absurd (false≢true e)
+  by_stop (Some keys) e f = rw (f, from_path)
 
   -- and one that leads on
-  pub by_next : (o : Option (List (List ℕ))) (ns : List Meaning) → is_some o ≡ true → into key ms ≡ some ns → by_path tape (with_key key o) ms ≡ by_path tape o ns
+  pub by_next : (o : Option (List (List ℕ))) (ns : List Meaning) → is_some o ≡ true → into key ms ≡ Some ns → by_path tape (with_key key o) ms ≡ by_path tape o ns
   unfolding is_some with_key by_path from_path
-  by_next none ns e f = absurd (false≢true e)
-  by_next (some keys) ns e f = rw (f, from_path)
+  by_next None ns e f = absurd (false≢true e)
+  by_next (Some keys) ns e f = rw (f, from_path)
 
 -- a value ends where it begins or later
 pub behind_later : {tape : List ℕ} {at end : ℕ} {ms : List Meaning} → Rest tape at ms → Rest tape end (behind 0 ms) → at ≤ end
@@ -45,7 +43,7 @@ by_end tape path at end key left ms r b z e = rw z (go (eqb key (length path)) (
     size : end - at ≡ length (tape_of (value_from 0 ms))
     size = omega (arith, rest_long r, rest_long b, value_long 0 ms)
 
-    go : (x : Bool) → is_some (cond x (some []) none) ≡ true → found at (end - at) ≡ by_path tape (cond x (some []) none) ms
+    go : (x : Bool) → is_some (cond x (Some []) None) ≡ true → found at (end - at) ≡ by_path tape (cond x (Some []) None) ms
     go true f = ap₂ found (sym (rest_start r)) size
     go false f = absurd (false≢true f)
 
@@ -69,16 +67,16 @@ check_rest tape n good e =
 
 -- the count of a path, and its keys
 module _ (tape path : List ℕ) (ms : List Meaning) where
-  pub by_none : number_at path 0 ≡ value.NoValue → refused 33 [] 0 ≡ by_path tape (keys_of path) ms
+  pub by_none : number_at path 0 ≡ None → refused 33 [] 0 ≡ by_path tape (keys_of path) ms
   unfolding keys_of keys_in by_path
   by_none e = rw (e, keys_in)
 
-  pub by_count : (count first : ℕ) → number_at path 0 ≡ value.Of count first → by_path tape (keys_from count path first) ms ≡ by_path tape (keys_of path) ms
+  pub by_count : (count first : ℕ) → number_at path 0 ≡ Some (count, first) → by_path tape (keys_from count path first) ms ≡ by_path tape (keys_of path) ms
   unfolding keys_of keys_in
   by_count count first e = rw (e, keys_in)
 
 -- bytes that are no path
 pub by_bad : (tape : List ℕ) (ms : List Meaning) (o : Option (List (List ℕ))) → is_some o ≡ false → refused 33 [] 0 ≡ by_path tape o ms
 unfolding is_some by_path
-by_bad tape ms none e = refl
-by_bad tape ms (some keys) e = absurd (true≢false e)
+by_bad tape ms None e = refl
+by_bad tape ms (Some keys) e = absurd (true≢false e)

@@ -1,7 +1,6 @@
 -- The part that is found is the value which the events' meaning gives, and nothing is found exactly where there is none. The part is a whole tape itself.
-use Rattle.std.specs.Prelude.{Bool, true, false, ℕ, zero, suc, ◌+◌, ◌-◌, ◌≤◌, take, drop}
+use Rattle.std.specs.Prelude.{Bool, true, false, ℕ, zero, suc, ◌+◌, ◌-◌, ◌≤◌, take, drop, None, Option, Some}
 use mathlib.Core.List.{List, [], ◌∷◌, ◌++◌, append_assoc}
-use Rattle.std.proofs.Math.Option.{Option, none, some}
 use Rattle.std.proofs.Math.Path.{◌≡◌, refl}
 use Rattle.std.proofs.Common.{ap, sym, ◌∙◌, arith, length-append, drop_at, take_at}
 use Rattle.std.proofs.Math.ListN.{length}
@@ -32,7 +31,7 @@ use Rattle.lookup.proofs.WholeLaws.{Awaits, fits_onto, fits_open, value_fits}
 abbrev Behind : List Meaning → List Meaning → Type 0
 Behind ms r = (p : List Meaning) × (ms ≡ p ++ r)
 
-not_some : (r : List Meaning) → none ≡ some r → ⊥
+not_some : (r : List Meaning) → None ≡ Some r → ⊥
 not_some r e = let z : ◌≡◌ {A = ℕ} 0 1 = cc in omega arith
 
 -- a value under a key stands behind, and where pairs fit it is due there
@@ -44,15 +43,15 @@ key_fits : (s : List ℕ) (ms : List Meaning) (around : List Due) → fits_from 
 unfolding turn_of text_turn is_nothing after_of move_of
 key_fits s ms around e = sym (fits_onto Key around (text s) ms (Pass Value) Value around refl refl) ∙ e
 
-under_is : (k : ℕ) (key : List ℕ) (ms r : List Meaning) → under_key k key ms ≡ some r → Under ms r
+under_is : (k : ℕ) (key : List ℕ) (ms r : List Meaning) → under_key k key ms ≡ Some r → Under ms r
 unfolding under_key after_of
 under_is zero key ms r e = absurd (not_some r e)
 under_is (suc k) key [] r e = absurd (not_some r e)
 under_is (suc k) key (text s ∷ ms) r e = go (same_bytes s key) refl (under_is k key (behind 0 ms) r)
   where
-    go : (b : Bool) → same_bytes s key ≡ b → (under_key k key (behind 0 ms) ≡ some r → Under (behind 0 ms) r) → Under (text s ∷ ms) r
+    go : (b : Bool) → same_bytes s key ≡ b → (under_key k key (behind 0 ms) ≡ Some r → Under (behind 0 ms) r) → Under (text s ∷ ms) r
     go true f ih =
-        let g : some ms ≡ some r = rw f at e in
+        let g : Some ms ≡ Some r = rw f at e in
         let z : ms ≡ r = cc in
         ((text s ∷ [], ap (λ (l : List Meaning). text s ∷ l) z), λ around h. rw (← z) (key_fits s ms around h))
     go false f ih =
@@ -87,7 +86,7 @@ pairs_fit Key around n ms a e = absurd a
 pairs_fit Value around n ms a e = (fits_open Value around (dictionary n) ms Key refl e).1
 pairs_fit Nothing around n ms a e = absurd a
 
-into_leads : (key : List ℕ) (ms r : List Meaning) → into key ms ≡ some r → Leads ms r
+into_leads : (key : List ℕ) (ms r : List Meaning) → into key ms ≡ Some r → Leads ms r
 unfolding into
 into_leads key [] r e = absurd (not_some r e)
 into_leads key (dictionary n ∷ ms) r e =
@@ -106,14 +105,14 @@ into_leads key (text s ∷ ms) r e = absurd (not_some r e)
 into_leads key (uid n ∷ ms) r e = absurd (not_some r e)
 
 -- what is found stands among the events, where a value is due
-path_leads : (keys : List (List ℕ)) (ms r : List Meaning) → from_path keys ms ≡ some r → Leads ms r
+path_leads : (keys : List (List ℕ)) (ms r : List Meaning) → from_path keys ms ≡ Some r → Leads ms r
 unfolding from_path
 path_leads [] ms r e = let z : ms ≡ r = cc in (([], z), λ h. rw (← z) h)
 path_leads (key ∷ keys) ms r e = go (into key ms) refl (λ l. path_leads keys l r)
   where
-    go : (o : Option (List Meaning)) → into key ms ≡ o → ((l : List Meaning) → from_path keys l ≡ some r → Leads l r) → Leads ms r
-    go none f ih = absurd (not_some r (rw (f, from_path) at e))
-    go (some l) f ih =
+    go : (o : Option (List Meaning)) → into key ms ≡ o → ((l : List Meaning) → from_path keys l ≡ Some r → Leads l r) → Leads ms r
+    go None f ih = absurd (not_some r (rw (f, from_path) at e))
+    go (Some l) f ih =
         let i = ih l (rw (f, from_path) at e) in
         let j = into_leads key ms l f in (
           (j.0.0 ++ i.0.0, j.0.1 ∙ ap (λ (x : List Meaning). j.0.0 ++ x) i.0.1 ∙ sym (append_assoc j.0.0 i.0.0 r)),
@@ -152,8 +151,8 @@ part_is tape ms r rest b =
 pub record Holds (tape path : List ℕ) (start n : ℕ) : Type 0 where
   pub keys : List (List ℕ)
   pub value : List Meaning
-  pub known : keys_of path ≡ some keys
-  pub is : value_at keys (meanings_in tape) ≡ some value
+  pub known : keys_of path ≡ Some keys
+  pub is : value_at keys (meanings_in tape) ≡ Some value
   pub means : events_of (part tape start n) ≡ whole value
   pub within : start + n ≤ length tape
   pub complete : check_of (part tape start n) ≡ check.whole (length value)
@@ -175,9 +174,9 @@ module _ (tape path : List ℕ) (good : Bytes tape) where
   unfolding find_of by_check by_path placed value_at first_of
   found_value start n e = checked (check_of tape) refl e
     where
-      at : (k : ℕ) → check_of tape ≡ check.whole k → (keys : List (List ℕ)) → keys_of path ≡ some keys → (o : Option (List Meaning)) → from_path keys (meanings_in tape) ≡ o → placed tape o ≡ found start n → Holds tape path start n
-      at k ok keys f none g h = let z : ◌≡◌ {A = ℕ} 0 1 = cc in absurd (omega arith)
-      at k ok keys f (some r) g h =
+      at : (k : ℕ) → check_of tape ≡ check.whole k → (keys : List (List ℕ)) → keys_of path ≡ Some keys → (o : Option (List Meaning)) → from_path keys (meanings_in tape) ≡ o → placed tape o ≡ found start n → Holds tape path start n
+      at k ok keys f None g h = let z : ◌≡◌ {A = ℕ} 0 1 = cc in absurd (omega arith)
+      at k ok keys f (Some r) g h =
           let l = path_leads keys (meanings_in tape) r g in
           let p = part_is tape (meanings_in tape) r (check_rest tape k good ok) l.0 in
           let a : length tape - length (tape_of r) ≡ start = cc in
@@ -187,55 +186,55 @@ module _ (tape path : List ℕ) (good : Bytes tape) where
           record { keys = keys; value = value_from 0 r; known = f; is = rw g; means = means; within = inside; complete = complete_part tape k r start n ok (l.1 (checked_due tape k ok)) inside means }
 
       by : (k : ℕ) → check_of tape ≡ check.whole k → (o : Option (List (List ℕ))) → keys_of path ≡ o → by_path tape o (meanings_in tape) ≡ found start n → Holds tape path start n
-      by k ok none f h = absurd (apart start n 33 0 [] h)
-      by k ok (some keys) f h = at k ok keys f (from_path keys (meanings_in tape)) refl h
+      by k ok None f h = absurd (apart start n 33 0 [] h)
+      by k ok (Some keys) f h = at k ok keys f (from_path keys (meanings_in tape)) refl h
 
       checked : (c : check.Said) → check_of tape ≡ c → by_check c tape (keys_of path) ≡ found start n → Holds tape path start n
       checked (check.refused number kinds place) f h = absurd (apart start n number place kinds h)
       checked (check.whole k) f h = by k f (keys_of path) refl h
 
-not_none : (v : List Meaning) → some v ≡ none → ⊥
+not_none : (v : List Meaning) → Some v ≡ None → ⊥
 not_none v e = let z : ◌≡◌ {A = ℕ} 0 1 = cc in omega arith
 
 -- where nothing is found, the path is one, and there is no value under it
 module _ (tape path : List ℕ) where
-  pub none_value : find_of tape path ≡ not_found → (keys : List (List ℕ)) × (keys_of path ≡ some keys) × (value_at keys (meanings_in tape) ≡ none)
+  pub none_value : find_of tape path ≡ not_found → (keys : List (List ℕ)) × (keys_of path ≡ Some keys) × (value_at keys (meanings_in tape) ≡ None)
   unfolding find_of by_check by_path placed value_at first_of
   none_value e = checked (check_of tape) e
     where
-      at : (keys : List (List ℕ)) → keys_of path ≡ some keys → (o : Option (List Meaning)) → from_path keys (meanings_in tape) ≡ o → placed tape o ≡ not_found → (ks : List (List ℕ)) × (keys_of path ≡ some ks) × (value_at ks (meanings_in tape) ≡ none)
-      at keys f none g h = (keys, f, rw g)
-      at keys f (some r) g h = let z : ◌≡◌ {A = ℕ} 0 1 = cc in absurd (omega arith)
+      at : (keys : List (List ℕ)) → keys_of path ≡ Some keys → (o : Option (List Meaning)) → from_path keys (meanings_in tape) ≡ o → placed tape o ≡ not_found → (ks : List (List ℕ)) × (keys_of path ≡ Some ks) × (value_at ks (meanings_in tape) ≡ None)
+      at keys f None g h = (keys, f, rw g)
+      at keys f (Some r) g h = let z : ◌≡◌ {A = ℕ} 0 1 = cc in absurd (omega arith)
 
-      by : (o : Option (List (List ℕ))) → keys_of path ≡ o → by_path tape o (meanings_in tape) ≡ not_found → (ks : List (List ℕ)) × (keys_of path ≡ some ks) × (value_at ks (meanings_in tape) ≡ none)
-      by none f h = let z : ◌≡◌ {A = ℕ} 0 1 = cc in absurd (omega arith)
-      by (some keys) f h = at keys f (from_path keys (meanings_in tape)) refl h
+      by : (o : Option (List (List ℕ))) → keys_of path ≡ o → by_path tape o (meanings_in tape) ≡ not_found → (ks : List (List ℕ)) × (keys_of path ≡ Some ks) × (value_at ks (meanings_in tape) ≡ None)
+      by None f h = let z : ◌≡◌ {A = ℕ} 0 1 = cc in absurd (omega arith)
+      by (Some keys) f h = at keys f (from_path keys (meanings_in tape)) refl h
 
-      checked : (c : check.Said) → by_check c tape (keys_of path) ≡ not_found → (ks : List (List ℕ)) × (keys_of path ≡ some ks) × (value_at ks (meanings_in tape) ≡ none)
+      checked : (c : check.Said) → by_check c tape (keys_of path) ≡ not_found → (ks : List (List ℕ)) × (keys_of path ≡ Some ks) × (value_at ks (meanings_in tape) ≡ None)
       checked (check.refused number kinds place) h = let z : ◌≡◌ {A = ℕ} 0 1 = cc in absurd (omega arith)
       checked (check.whole k) h = by (keys_of path) refl h
 
   -- the other way, on a tape that is one whole root
-  module _ (n : ℕ) (ok : check_of tape ≡ check.whole n) (keys : List (List ℕ)) (known : keys_of path ≡ some keys) where
+  module _ (n : ℕ) (ok : check_of tape ≡ check.whole n) (keys : List (List ℕ)) (known : keys_of path ≡ Some keys) where
     goes : find_of tape path ≡ placed tape (from_path keys (meanings_in tape))
     unfolding find_of by_check by_path
     goes = rw (ok, by_check, known)
 
-    pub value_none : value_at keys (meanings_in tape) ≡ none → find_of tape path ≡ not_found
+    pub value_none : value_at keys (meanings_in tape) ≡ None → find_of tape path ≡ not_found
     unfolding placed value_at first_of
     value_none e = goes ∙ go (from_path keys (meanings_in tape)) e
       where
-        go : (o : Option (List Meaning)) → first_of o ≡ none → placed tape o ≡ not_found
-        go none f = refl
-        go (some r) f = absurd (not_none _ f)
+        go : (o : Option (List Meaning)) → first_of o ≡ None → placed tape o ≡ not_found
+        go None f = refl
+        go (Some r) f = absurd (not_none _ f)
 
-    pub value_found : (v : List Meaning) → value_at keys (meanings_in tape) ≡ some v → (start : ℕ) × (size : ℕ) × (find_of tape path ≡ found start size)
+    pub value_found : (v : List Meaning) → value_at keys (meanings_in tape) ≡ Some v → (start : ℕ) × (size : ℕ) × (find_of tape path ≡ found start size)
     unfolding placed value_at first_of
     value_found v e = go (from_path keys (meanings_in tape)) goes e
       where
-        go : (o : Option (List Meaning)) → find_of tape path ≡ placed tape o → first_of o ≡ some v → (start : ℕ) × (size : ℕ) × (find_of tape path ≡ found start size)
-        go none f g = absurd (not_none v (sym g))
-        go (some r) f g = (_, _, f)
+        go : (o : Option (List Meaning)) → find_of tape path ≡ placed tape o → first_of o ≡ Some v → (start : ℕ) × (size : ℕ) × (find_of tape path ≡ found start size)
+        go None f g = absurd (not_none v (sym g))
+        go (Some r) f g = (_, _, f)
 
 -- THE PART of a value, as `find_part` hands it out, is a complete tape: it can be looked into again, or written
 pub part_complete : (tape path : List ℕ) (start n : ℕ) → Bytes tape → find_of tape path ≡ found start n → (k : ℕ) × (check_of (part_of tape path) ≡ check.whole k)

@@ -1,13 +1,15 @@
 -- What is left in memory: bytes moved up, then a count, a length and a key written.
 use mathlib.Core.Bool.{true, false}
-use mathlib.Core.List.{List, [], ◌∷◌, ◌++◌, append_assoc}
+use mathlib.Core.List.{List, ◌∷◌, ◌++◌, append_assoc}
 use mathlib.Core.Path.{◌≡◌, refl, sym, ap, ap₂, ◌∙◌}
-use Prim.Native.Nat.{ℕ, suc, ◌+◌, ◌-◌, ◌≤◌, ◌<◌}
+use Prim.Native.Nat.{ℕ, ◌+◌, ◌-◌, ◌≤◌, ◌<◌}
 use native.Mathlib.Omega.{arith}
 use borrow.Author.Tests.{le-leb, lt-leb, leb-true, ltb-true, ltb-false}
 use lib.Dec.{ltb, leb}
-use lib.ListN.{length, get_or, set, take, drop, length-append, length-drop, take-append-drop, get_or-append}
-use lib.Seq.{sets, sets-eq, length-take-le, take-suc, drop-cons, get_or-take, set_at, take-append_seam, drop-append-add, drop-drop, take_at, drop_at}
+use lib.ListN.{length, take, drop, length-append, length-drop, take-append-drop}
+use lib.Seq.{paste, sets, sets-eq, length-take-le, take-append_seam, drop-append-add, drop-drop, take_at, drop_at}
+use Rattle.std.specs.List.{copy_within}
+use Rattle.std.proofs.lemmas.List.Edits.{take-paste, drop-paste}
 use Rattle.number.specs.Part.{part}
 use Rattle.number.specs.PartLaws.{length_part}
 use Rattle.tape.specs.Append.{held, refused, said, fits, put_of, put_to}
@@ -18,52 +20,19 @@ use Rattle.tape.specs.declared.append.Appended.TheVariants as appended
 use Rattle.lookup.specs.Append.{added_in, moved}
 use Rattle.lookup.specs.declared.append.Added.TheVariants.{Held, NoRoom}
 
--- nothing is moved yet, then one byte more
-module _ (memory : List ℕ) (to by : ℕ) where
-  pub move_none : memory ≡ moved memory to to by
-  unfolding moved
-  move_none =
-      let z : to - to ≡ 0 = omega arith in
-      rw z (sym (take-append-drop (to + by) memory))
-
-  module _ (j : ℕ) (less : j < to) (room : to + by ≤ length memory) where
-    byte : ℕ
-    byte = get_or memory j 0
-
-    others : List ℕ
-    others = part memory (suc j) (to - suc j) ++ drop (to + by) memory
-
-    front : moved memory (suc j) to by ≡ take (j + by) memory ++ (get_or memory (j + by) 0 ∷ others)
-    unfolding moved others
-    front =
-        let s : suc j + by ≡ suc (j + by) = omega arith in
-        let t : take (suc j + by) memory ≡ take (j + by) memory ++ (get_or memory (j + by) 0 ∷ []) = ap (λ (i : ℕ). take i memory) s ∙ take-suc memory (j + by) 0 (omega arith) in
-        ap (λ (x : List ℕ). x ++ (part memory (suc j) (to - suc j) ++ drop (to + by) memory)) t ∙ append_assoc (take (j + by) memory) (get_or memory (j + by) 0 ∷ []) (part memory (suc j) (to - suc j) ++ drop (to + by) memory)
-
-    pub move_reads : get_or (moved memory (suc j) to by) j 0 ≡ get_or memory j 0
-    unfolding moved
-    move_reads =
-        let l : length (take (suc j + by) memory) ≡ suc j + by = length-take-le (suc j + by) memory (omega arith) in
-        get_or-append (take (suc j + by) memory) (part memory (suc j) (to - suc j) ++ drop (to + by) memory) 0 j (omega (arith, l)) ∙ get_or-take (suc j + by) memory j 0 (omega arith)
-
-    pub move_more : set (moved memory (suc j) to by) (j + by) (get_or (moved memory (suc j) to by) j 0) ≡ moved memory j to by
-    unfolding moved others
-    move_more =
-        let n : to - j ≡ suc (to - suc j) = omega arith in
-        let p : part memory j (to - j) ≡ get_or memory j 0 ∷ part memory (suc j) (to - suc j) = ap₂ take n (drop-cons memory j 0 (omega arith)) in
-        ap₂ (λ (l : List ℕ) (x : ℕ). set l (j + by) x) front move_reads
-        ∙ set_at (take (j + by) memory) (get_or memory (j + by) 0) others (get_or memory j 0) (j + by) (length-take-le (j + by) memory (omega arith))
-        ∙ ap (λ (x : List ℕ). take (j + by) memory ++ (x ++ drop (to + by) memory)) (sym p)
-
--- the same as the loop has it
-pub move_next : (memory path : List ℕ) (i to by : ℕ) → path ≡ moved memory i to by → 0 < i → i ≤ to → to + by ≤ length memory → set path (i - 1 + by) (get_or path (i - 1) 0) ≡ moved memory (i - 1) to by
-move_next memory path i to by e some less room =
-    let s : i ≡ suc (i - 1) = omega arith in
-    let f : path ≡ moved memory (suc (i - 1)) to by = e ∙ ap (λ (k : ℕ). moved memory k to by) s in
-    ap (λ (m : List ℕ). set m (i - 1 + by) (get_or m (i - 1) 0)) f ∙ move_more memory to by (i - 1) (omega arith) room
-
-pub move_done : (memory path : List ℕ) (i from to by : ℕ) → path ≡ moved memory i to by → i ≡ from → path ≡ moved memory from to by
-move_done memory path i from to by e f = e ∙ ap (λ (k : ℕ). moved memory k to by) f
+-- what `copy_within` leaves is what its name says
+pub moved_is : (memory : List ℕ) (from to by : ℕ) → from ≤ to → to + by ≤ length memory → copy_within memory from to (from + by) ≡ moved memory from to by
+unfolding moved
+moved_is memory from to by h room =
+    let n = to - from in
+    let s : List ℕ = drop from memory in
+    let p : List ℕ = paste memory (from + by) s n in
+    let l : n ≤ length s = omega (arith, length-drop from memory) in
+    let e : from + by + n ≡ to + by = omega arith in
+    sym (take-append-drop (from + by + n) p)
+    ∙ ap₂ (λ (x y : List ℕ). x ++ y) (take-paste memory (from + by) s n (omega arith) l) (drop-paste memory (from + by) s n (omega arith) l)
+    ∙ append_assoc (take (from + by) memory) (take n s) (drop (from + by + n) memory)
+    ∙ ap (λ (i : ℕ). take (from + by) memory ++ (take n s ++ drop i memory)) e
 
 -- the groups of a number behind a byte
 module _ (memory : List ℕ) (n : ℕ) (long : length memory ≡ 11) where

@@ -1,7 +1,6 @@
 -- The empty path gives the root: events that are one whole root are one value, and nothing is behind it.
-use Rattle.std.specs.Prelude.{List, [], ◌++◌, ◌≡◌, refl, true, ℕ, length}
+use Rattle.std.specs.Prelude.{List, [], ◌++◌, ◌≡◌, refl, true, ℕ, length, Some}
 use Rattle.std.proofs.Common.{append-nil, ap, ap₂, sym, ◌∙◌, arith}
-use Rattle.std.proofs.Math.Option.{some}
 use Rattle.number.specs.BeLaws.{Bytes}
 use Rattle.event.specs.Meaning.{Meaning}
 use Rattle.tape.specs.Events.{tape_of, meant_by, meanings_in}
@@ -27,7 +26,7 @@ whole_value ms e =
     sym (append-nil (value_from 0 ms)) ∙ ap (λ (l : List Meaning). value_from 0 ms ++ l) (sym none) ∙ value_split 0 ms
 
 -- so the empty path gives the whole tape
-pub root_found : (tape path : List ℕ) (n : ℕ) → Bytes tape → check_of tape ≡ check.whole n → keys_of path ≡ some [] → find_of tape path ≡ found 0 (length tape)
+pub root_found : (tape path : List ℕ) (n : ℕ) → Bytes tape → check_of tape ≡ check.whole n → keys_of path ≡ Some [] → find_of tape path ≡ found 0 (length tape)
 unfolding by_path from_path placed meanings_in meant_by
 root_found tape path n good ok known =
     let w = check_whole tape n ok in

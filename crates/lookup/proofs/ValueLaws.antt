@@ -1,6 +1,5 @@
 -- Laws of values among events.
-use Rattle.std.specs.Prelude.{Bool, true, false, cond, List, [], ◌∷◌, ◌++◌, ◌≡◌, refl, ℕ, zero, suc, ◌+◌, ◌≤◌, ◌<◌, eqb, pos, negsuc, length}
-use Rattle.std.proofs.Math.Option.{none, some}
+use Rattle.std.specs.Prelude.{Bool, true, false, cond, List, [], ◌∷◌, ◌++◌, ◌≡◌, refl, ℕ, zero, suc, ◌+◌, ◌≤◌, ◌<◌, eqb, pos, negsuc, length, None, Some}
 use Rattle.std.proofs.Common.{ap, sym, ◌∙◌, arith, eq-eqb, ne_eqb, length-append}
 use Rattle.event.specs.Meaning.{Meaning, array, dictionary, close, boolean, bytes, date, integer, real, text, uid}
 use Rattle.tape.specs.Code.{bytes_for}
@@ -49,7 +48,7 @@ module _ (d : ℕ) (m : Meaning) (ms : List Meaning) where
   behind_on e = rw (ne_eqb (deeper d m) 0 e)
 
 -- a pair whose key is the one, and one whose key isn't
-pub under_here : (k : ℕ) (key s : List ℕ) (ms : List Meaning) → same_bytes s key ≡ true → under_key (suc k) key (text s ∷ ms) ≡ some ms
+pub under_here : (k : ℕ) (key s : List ℕ) (ms : List Meaning) → same_bytes s key ≡ true → under_key (suc k) key (text s ∷ ms) ≡ Some ms
 unfolding under_key
 under_here k key s ms e = rw e
 
@@ -57,7 +56,7 @@ pub under_on : (k : ℕ) (key s : List ℕ) (ms : List Meaning) → same_bytes s
 unfolding under_key
 under_on k key s ms e = rw e
 
-pub under_none : (k : ℕ) (key : List ℕ) → under_key k key [] ≡ none
+pub under_none : (k : ℕ) (key : List ℕ) → under_key k key [] ≡ None
 unfolding under_key
 under_none zero key = refl
 under_none (suc k) key = refl
@@ -65,10 +64,10 @@ under_none (suc k) key = refl
 -- an event's kind tells whether it is text
 pub is_text_law : (m : Meaning) (c : ℕ) (s : List ℕ) → bytes_for m ≡ c ∷ s → c ≡ 0x09 → (t : List ℕ) × (m ≡ text t)
 unfolding bytes_for
-is_text_law (array none) c s e f = let z : 0x0A ≡ c = cc in absurd (omega arith)
-is_text_law (array (some n)) c s e f = let z : 0x0B ≡ c = cc in absurd (omega arith)
-is_text_law (dictionary none) c s e f = let z : 0x0C ≡ c = cc in absurd (omega arith)
-is_text_law (dictionary (some n)) c s e f = let z : 0x0D ≡ c = cc in absurd (omega arith)
+is_text_law (array None) c s e f = let z : 0x0A ≡ c = cc in absurd (omega arith)
+is_text_law (array (Some n)) c s e f = let z : 0x0B ≡ c = cc in absurd (omega arith)
+is_text_law (dictionary None) c s e f = let z : 0x0C ≡ c = cc in absurd (omega arith)
+is_text_law (dictionary (Some n)) c s e f = let z : 0x0D ≡ c = cc in absurd (omega arith)
 is_text_law close c s e f = let z : 0x0E ≡ c = cc in absurd (omega arith)
 is_text_law (boolean false) c s e f = let z : 0x01 ≡ c = cc in absurd (omega arith)
 is_text_law (boolean true) c s e f = let z : 0x02 ≡ c = cc in absurd (omega arith)
@@ -80,7 +79,7 @@ is_text_law (real b) c s e f = let z : 0x05 ≡ c = cc in absurd (omega arith)
 is_text_law (text b) c s e f = (b, refl)
 is_text_law (uid n) c s e f = let z : 0x07 ≡ c = cc in absurd (omega arith)
 
-pub not_text : (k : ℕ) (key : List ℕ) (m : Meaning) (ms : List Meaning) (c : ℕ) (s : List ℕ) → bytes_for m ≡ c ∷ s → (c ≡ 0x09 → ⊥) → under_key k key (m ∷ ms) ≡ none
+pub not_text : (k : ℕ) (key : List ℕ) (m : Meaning) (ms : List Meaning) (c : ℕ) (s : List ℕ) → bytes_for m ≡ c ∷ s → (c ≡ 0x09 → ⊥) → under_key k key (m ∷ ms) ≡ None
 unfolding bytes_for under_key
 not_text zero key m ms c s e f = refl
 not_text (suc k) key (array n) ms c s e f = refl
@@ -97,8 +96,8 @@ not_text (suc k) key (uid n) ms c s e f = refl
 -- and whether it is the start of a dictionary
 pub in_dictionary_law : (key : List ℕ) (m : Meaning) (ms : List Meaning) (c : ℕ) (s : List ℕ) → bytes_for m ≡ c ∷ s → 0x0C ≤ c → c < 0x0E → into key (m ∷ ms) ≡ under_key (length ms) key ms
 unfolding bytes_for into
-in_dictionary_law key (array none) ms c s e f g = let z : 0x0A ≡ c = cc in absurd (omega arith)
-in_dictionary_law key (array (some n)) ms c s e f g = let z : 0x0B ≡ c = cc in absurd (omega arith)
+in_dictionary_law key (array None) ms c s e f g = let z : 0x0A ≡ c = cc in absurd (omega arith)
+in_dictionary_law key (array (Some n)) ms c s e f g = let z : 0x0B ≡ c = cc in absurd (omega arith)
 in_dictionary_law key (dictionary n) ms c s e f g = refl
 in_dictionary_law key close ms c s e f g = let z : 0x0E ≡ c = cc in absurd (omega arith)
 in_dictionary_law key (boolean false) ms c s e f g = let z : 0x01 ≡ c = cc in absurd (omega arith)
@@ -111,11 +110,11 @@ in_dictionary_law key (real b) ms c s e f g = let z : 0x05 ≡ c = cc in absurd 
 in_dictionary_law key (text b) ms c s e f g = let z : 0x09 ≡ c = cc in absurd (omega arith)
 in_dictionary_law key (uid n) ms c s e f g = let z : 0x07 ≡ c = cc in absurd (omega arith)
 
-pub no_dictionary : (key : List ℕ) (m : Meaning) (ms : List Meaning) (c : ℕ) (s : List ℕ) → bytes_for m ≡ c ∷ s → (0x0C ≤ c → c < 0x0E → ⊥) → into key (m ∷ ms) ≡ none
+pub no_dictionary : (key : List ℕ) (m : Meaning) (ms : List Meaning) (c : ℕ) (s : List ℕ) → bytes_for m ≡ c ∷ s → (0x0C ≤ c → c < 0x0E → ⊥) → into key (m ∷ ms) ≡ None
 unfolding bytes_for into
 no_dictionary key (array n) ms c s e f = refl
-no_dictionary key (dictionary none) ms c s e f = let z : 0x0C ≡ c = cc in absurd (f (omega arith) (omega arith))
-no_dictionary key (dictionary (some n)) ms c s e f = let z : 0x0D ≡ c = cc in absurd (f (omega arith) (omega arith))
+no_dictionary key (dictionary None) ms c s e f = let z : 0x0C ≡ c = cc in absurd (f (omega arith) (omega arith))
+no_dictionary key (dictionary (Some n)) ms c s e f = let z : 0x0D ≡ c = cc in absurd (f (omega arith) (omega arith))
 no_dictionary key close ms c s e f = refl
 no_dictionary key (boolean b) ms c s e f = refl
 no_dictionary key (bytes b) ms c s e f = refl

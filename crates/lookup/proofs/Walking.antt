@@ -1,4 +1,5 @@
 -- Along the events of a value: what is left behind them.
+use Rattle.std.specs.Prelude.{None, Option, Some}
 use mathlib.Core.Bool.{Bool, true, false, cond}
 use mathlib.Core.List.{List, [], ◌∷◌}
 use mathlib.Core.Path.{◌≡◌, refl, sym, ap, ◌∙◌}
@@ -12,21 +13,19 @@ use Rattle.tape.proofs.CodeLaws.{bytes_some}
 use Rattle.tape.specs.End.{end_of}
 use Rattle.tape.proofs.EndLaws.{end_reads}
 use Rattle.tape.specs.Item.{event, read_at}
-use Rattle.tape.specs.declared.end.End.{End}
-use Rattle.tape.specs.declared.end.End.TheVariants.{At, NoEvent}
 use Rattle.lookup.specs.Rest.{events_at, Rest, deeper_by}
 use Rattle.lookup.specs.RestLaws.{rest_some, rest_none, rest_reads, rest_next, rest_at, rest_deeper}
 use Rattle.lookup.specs.Value.{deeper, behind}
 use Rattle.lookup.proofs.ValueLaws.{behind_here, behind_on}
 
 -- where an event stands, it ends where the next one begins
-module _ (tape : List ℕ) (at : ℕ) {told : End} (is : told ≡ end_of tape at) (m : Meaning) (next : ℕ) (reads : read_at tape at ≡ event m next) where
-  pub after_at : (x : ℕ) → told ≡ At x → x ≡ next
-  after_at x g = let h : end_of tape at ≡ At next = end_reads tape at m next reads in cc
+module _ (tape : List ℕ) (at : ℕ) {told : Option ℕ} (is : told ≡ end_of tape at) (m : Meaning) (next : ℕ) (reads : read_at tape at ≡ event m next) where
+  pub after_at : (x : ℕ) → told ≡ Some x → x ≡ next
+  after_at x g = let h : end_of tape at ≡ Some next = end_reads tape at m next reads in cc
 
-  pub after_none : told ≡ NoEvent → ⊥
+  pub after_none : told ≡ None → ⊥
   after_none g =
-      let h : end_of tape at ≡ At next = end_reads tape at m next reads in
+      let h : end_of tape at ≡ Some next = end_reads tape at m next reads in
       let z : ◌≡◌ {A = ℕ} 0 1 = cc in
       omega arith
 

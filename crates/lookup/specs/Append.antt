@@ -1,6 +1,5 @@
 -- A key added to a path that is held at the front of lent memory. docs/FORMAT.md, rule Q8.
-use Rattle.std.specs.Prelude.{cond, List, [], ◌∷◌, ◌++◌, ℕ, ◌+◌, ◌-◌, ◌^◌, ◌≤◌, ◌<◌, leb, eqb, length, take, drop}
-use Rattle.std.proofs.Math.Option.{Option, none, some}
+use Rattle.std.specs.Prelude.{cond, List, [], ◌∷◌, ◌++◌, ℕ, ◌+◌, ◌-◌, ◌^◌, ◌≤◌, ◌<◌, leb, eqb, length, take, drop, None, Option, Some}
 use Rattle.number.specs.Part.{part}
 use Rattle.tape.specs.Append.{fits, put_to}
 use Rattle.tape.specs.Seven.{seven}
@@ -10,7 +9,7 @@ use Rattle.lookup.specs.declared.append.Added.TheVariants.{Held, NoRoom, NotPath
 
 -- the keys that are held: none in no bytes; else those of the path that the bytes are, all of them in the memory
 unfoldable pub held_keys : List ℕ → ℕ → Option (List (List ℕ))
-held_keys memory held = cond (eqb held 0) (some []) (cond (leb held (length memory)) (keys_of (take held memory)) none)
+held_keys memory held = cond (eqb held 0) (Some []) (cond (leb held (length memory)) (keys_of (take held memory)) None)
 
 -- bytes at the front, if they fit
 unfoldable pub added_in : List ℕ → List ℕ → Added
@@ -18,16 +17,16 @@ added_in memory s = cond (fits memory 0 s) (Held (length s)) NoRoom
 
 -- the path of one key more
 unfoldable pub added_by : List ℕ → List ℕ → Option (List (List ℕ)) → Added
-added_by memory key (some keys) = added_in memory (path_of (keys ++ (key ∷ [])))
-added_by memory key none = NotPath
+added_by memory key (Some keys) = added_in memory (path_of (keys ++ (key ∷ [])))
+added_by memory key None = NotPath
 
 unfoldable pub added_of : List ℕ → ℕ → List ℕ → Added
 added_of memory held key = added_by memory key (held_keys memory held)
 
 -- the memory afterwards
 unfoldable pub after_by : List ℕ → List ℕ → Option (List (List ℕ)) → List ℕ
-after_by memory key (some keys) = put_to memory 0 (path_of (keys ++ (key ∷ [])))
-after_by memory key none = memory
+after_by memory key (Some keys) = put_to memory 0 (path_of (keys ++ (key ∷ [])))
+after_by memory key None = memory
 
 unfoldable pub added_to : List ℕ → ℕ → List ℕ → List ℕ
 added_to memory held key = after_by memory key (held_keys memory held)

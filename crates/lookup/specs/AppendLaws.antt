@@ -1,9 +1,8 @@
 -- What a key makes of a path: the path of one key more.
-use Rattle.std.specs.Prelude.{Bool, cond, ◌≡◌, ℕ, zero, suc, ◌+◌, ◌-◌, ◌/◌, ◌^◌, ◌≤◌, ◌<◌, ltb, leb, take, drop}
+use Rattle.std.specs.Prelude.{Bool, cond, ◌≡◌, ℕ, zero, suc, ◌+◌, ◌-◌, ◌/◌, ◌^◌, ◌≤◌, ◌<◌, ltb, leb, take, drop, None, Some, Option}
 use Rattle.std.proofs.Math.Bool.{true, false}
 use Rattle.std.proofs.lemmas.Bool.{false≢true}
 use mathlib.Core.List.{List, [], ◌∷◌, ◌++◌, append_assoc, append-nil}
-use Rattle.std.proofs.Math.Option.{Option, none, some}
 use Rattle.std.proofs.Math.Path.{refl, ap, sym}
 use Rattle.std.proofs.Common.{ap₂, ◌∙◌, le-div_iff_mul-le, arith, lit<, length-append, take-append-drop, length-take-le, take_at, drop_at}
 use Rattle.std.proofs.Math.Nat.{mul-div-le}
@@ -13,12 +12,12 @@ use Rattle.std.proofs.lemmas.List.Edits.{sets-eq}
 use Rattle.number.specs.BeLaws.{Bytes}
 use Rattle.number.specs.Part.{part}
 use Rattle.number.specs.PartLaws.{bytes_take}
+use Rattle.tape.specs.Pairs.{both_of}
 use Rattle.tape.specs.Append.{fits, put_to}
 use Rattle.tape.specs.Seven.{groups, seven}
 use Rattle.tape.specs.SevenLaws.{groups_last, groups_more, groups_some, seven_some}
 use Rattle.tape.specs.Value.{number_at}
 use Rattle.tape.specs.ValueLaws.{number_seven}
-use Rattle.tape.specs.declared.value.Value.TheVariants as value
 use Rattle.lookup.specs.Append.{held_keys, added_in, added_by, added_of, after_by, added_to, grown, Growing}
 use Rattle.lookup.specs.KeysLaws.{keys_path}
 use Rattle.lookup.specs.Path.{keys_bytes, path_of, keys_from, keys_in, keys_of, is_some}
@@ -79,15 +78,15 @@ module _ (memory key : List ℕ) where
       unfolding held_keys
       keys_here = rw (ne_eqb held 0 some_held, le-leb held (length memory) inside)
 
-      held_not : keys_of (take held memory) ≡ none → (NotPath ≡ added_of memory held key) × (memory ≡ added_to memory held key)
+      held_not : keys_of (take held memory) ≡ None → (NotPath ≡ added_of memory held key) × (memory ≡ added_to memory held key)
       unfolding added_of added_to added_by after_by
       held_not e = (rw (keys_here, e), rw (keys_here, e))
 
-      pub held_uncounted : number_at (take held memory) 0 ≡ value.NoValue → (NotPath ≡ added_of memory held key) × (memory ≡ added_to memory held key)
+      pub held_uncounted : number_at (take held memory) 0 ≡ None → (NotPath ≡ added_of memory held key) × (memory ≡ added_to memory held key)
       unfolding keys_of keys_in
       held_uncounted e = held_not (rw (e, keys_in))
 
-      module _ (good : Bytes memory) (count first : ℕ) (number : number_at (take held memory) 0 ≡ value.Of count first) where
+      module _ (good : Bytes memory) (count first : ℕ) (number : number_at (take held memory) 0 ≡ Some (count, first)) where
         count_keys : keys_of (take held memory) ≡ keys_from count (take held memory) first
         unfolding keys_of keys_in
         count_keys = rw (number, keys_in)
@@ -96,19 +95,19 @@ module _ (memory key : List ℕ) where
         unfolding is_some
         held_bad e = held_not (count_keys ∙ go (keys_from count (take held memory) first) e)
           where
-            go : (o : Option (List (List ℕ))) → is_some o ≡ false → o ≡ none
-            go none f = refl
-            go (some keys) f = absurd (false≢true (sym f))
+            go : (o : Option (List (List ℕ))) → is_some o ≡ false → o ≡ None
+            go None f = refl
+            go (Some keys) f = absurd (false≢true (sym f))
 
-        pub keys_known : is_some (keys_from count (take held memory) first) ≡ true → (keys : List (List ℕ)) × (keys_of (take held memory) ≡ some keys)
+        pub keys_known : is_some (keys_from count (take held memory) first) ≡ true → (keys : List (List ℕ)) × (keys_of (take held memory) ≡ Some keys)
         unfolding is_some
         keys_known e = go (keys_from count (take held memory) first) refl e
           where
-            go : (o : Option (List (List ℕ))) → keys_from count (take held memory) first ≡ o → is_some o ≡ true → (keys : List (List ℕ)) × (keys_of (take held memory) ≡ some keys)
-            go none f g = absurd (false≢true g)
-            go (some keys) f g = (keys, count_keys ∙ f)
+            go : (o : Option (List (List ℕ))) → keys_from count (take held memory) first ≡ o → is_some o ≡ true → (keys : List (List ℕ)) × (keys_of (take held memory) ≡ Some keys)
+            go None f g = absurd (false≢true g)
+            go (Some keys) f g = (keys, count_keys ∙ f)
 
-        module _ (keys : List (List ℕ)) (known : keys_of (take held memory) ≡ some keys) where
+        module _ (keys : List (List ℕ)) (known : keys_of (take held memory) ≡ Some keys) where
           is_path : take held memory ≡ seven (length keys) ++ keys_bytes keys
           unfolding path_of
           is_path = (keys_path (take held memory) keys (bytes_take held memory good) known).0
@@ -119,10 +118,9 @@ module _ (memory key : List ℕ) where
           is_number : (count ≡ length keys) × (first ≡ length (seven (length keys)))
           unfolding number_at
           is_number =
-              let e : value.Of count first ≡ value.Of (length keys) (0 + length (seven (length keys))) = sym number ∙ rw is_path (number_seven 0 (length keys) (keys_bytes keys) fits_count) in
-              let a : count ≡ length keys = cc in
-              let b : first ≡ 0 + length (seven (length keys)) = cc in
-              (a, omega (arith, b))
+              let e : Some (count, first) ≡ Some (length keys, 0 + length (seven (length keys))) = sym number ∙ rw is_path (number_seven 0 (length keys) (keys_bytes keys) fits_count) in
+              let same = both_of e in
+              (same.0, omega (arith, same.1))
 
           held_is : held ≡ first + length (keys_bytes keys)
           held_is = omega (arith, sym (length-take-le held memory inside) ∙ ap length is_path ∙ length-append (seven (length keys)) (keys_bytes keys), is_number.1)
@@ -145,13 +143,13 @@ module _ (memory key : List ℕ) where
           unfolding added_of added_to added_by after_by grown
           grown_is =
               let e : grown memory held count first key ≡ path_of (keys ++ (key ∷ [])) = rw (body_is, is_number.0) (sym (path_more keys key)) in
-              let k : held_keys memory held ≡ some keys = keys_here ∙ known in
+              let k : held_keys memory held ≡ Some keys = keys_here ∙ known in
               (ap (added_in memory) e ∙ rw k, ap (put_to memory 0) e ∙ rw k)
 
 -- WHAT IS MADE is a path: where bytes are held afterwards they are the path of the keys that were held and this one
 pub record Made (memory key : List ℕ) (held next : ℕ) : Type 0 where
   pub keys : List (List ℕ)
-  pub before : held_keys memory held ≡ some keys
+  pub before : held_keys memory held ≡ Some keys
   pub after : take next (added_to memory held key) ≡ path_of (keys ++ (key ∷ []))
   pub behind : drop next (added_to memory held key) ≡ drop next memory
 
@@ -159,7 +157,7 @@ pub added_path : (memory key : List ℕ) (held next : ℕ) → added_of memory h
 unfolding added_of added_to added_by after_by added_in put_to fits
 added_path memory key held next e = go (held_keys memory held) refl e
   where
-    room : (keys : List (List ℕ)) → held_keys memory held ≡ some keys → (b : Bool) → leb (0 + length (path_of (keys ++ (key ∷ [])))) (length memory) ≡ b → cond b (Held (length (path_of (keys ++ (key ∷ []))))) NoRoom ≡ Held next → Made memory key held next
+    room : (keys : List (List ℕ)) → held_keys memory held ≡ Some keys → (b : Bool) → leb (0 + length (path_of (keys ++ (key ∷ [])))) (length memory) ≡ b → cond b (Held (length (path_of (keys ++ (key ∷ []))))) NoRoom ≡ Held next → Made memory key held next
     room keys k false f g = let z : ◌≡◌ {A = ℕ} 0 1 = cc in absurd (omega arith)
     room keys k true f g =
         let s : List ℕ = path_of (keys ++ (key ∷ [])) in
@@ -175,5 +173,5 @@ added_path memory key held next e = go (held_keys memory held) refl e
         }
 
     go : (o : Option (List (List ℕ))) → held_keys memory held ≡ o → added_by memory key o ≡ Held next → Made memory key held next
-    go none k g = let z : ◌≡◌ {A = ℕ} 0 1 = cc in absurd (omega arith)
-    go (some keys) k g = room keys k (leb (0 + length (path_of (keys ++ (key ∷ [])))) (length memory)) refl g
+    go None k g = let z : ◌≡◌ {A = ℕ} 0 1 = cc in absurd (omega arith)
+    go (Some keys) k g = room keys k (leb (0 + length (path_of (keys ++ (key ∷ [])))) (length memory)) refl g

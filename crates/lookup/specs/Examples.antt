@@ -1,6 +1,5 @@
 -- A hold record, paths, and what is found under them, computed.
-use Rattle.std.specs.Prelude.{List, [], ◌∷◌, ◌++◌, map, ◌≡◌, refl, ℕ, pos, replicate}
-use Rattle.std.proofs.Math.Option.{none, some}
+use Rattle.std.specs.Prelude.{List, [], ◌∷◌, ◌++◌, map, ◌≡◌, refl, ℕ, pos, replicate, None, Some}
 use Rattle.event.specs.Meaning.{dictionary, close, integer, text}
 use Rattle.grammar.specs.declared.answer.EventKind.TheVariants.{DictionaryKeyOrEndCollection, Integer}
 use Rattle.lookup.specs.Computed.{computed}
@@ -46,7 +45,7 @@ answers = refl
 
 -- what the meanings give, and the part that is handed out
 pub values :
-    (value_at (hold ∷ []) (dictionary none ∷ text hold ∷ integer (pos 1) ∷ text hold ∷ integer (pos 2) ∷ close ∷ []) ≡ some (integer (pos 1) ∷ [])) ×
+    (value_at (hold ∷ []) (dictionary None ∷ text hold ∷ integer (pos 1) ∷ text hold ∷ integer (pos 2) ∷ close ∷ []) ≡ Some (integer (pos 1) ∷ [])) ×
     (part_of tape (path_of (matter ∷ hold ∷ [])) ≡ holding) ×
     (part_of tape (path_of (hold ∷ [])) ≡ [])
 unfolding computed
@@ -65,8 +64,8 @@ steps = (refl, refl, refl, refl)
 -- Bytes that are no path: none; a key too few; a byte behind the last; a count in two groups; a key's length in two groups; a key that is cut short. A key
 -- need not be UTF-8. The tape is refused first.
 pub bad_paths :
-    (map keys_of ([] ∷ (0x02 ∷ 0x01 ∷ 0x61 ∷ []) ∷ (0x00 ∷ 0x00 ∷ []) ∷ (0x80 ∷ 0x00 ∷ []) ∷ (0x01 ∷ 0x81 ∷ 0x00 ∷ 0x61 ∷ []) ∷ (0x01 ∷ 0x02 ∷ 0x61 ∷ []) ∷ []) ≡ none ∷ none ∷ none ∷ none ∷ none ∷ none ∷ []) ×
-    (keys_of (0x02 ∷ 0x01 ∷ 0xFF ∷ 0x00 ∷ []) ≡ some ((0xFF ∷ []) ∷ [] ∷ [])) ×
+    (map keys_of ([] ∷ (0x02 ∷ 0x01 ∷ 0x61 ∷ []) ∷ (0x00 ∷ 0x00 ∷ []) ∷ (0x80 ∷ 0x00 ∷ []) ∷ (0x01 ∷ 0x81 ∷ 0x00 ∷ 0x61 ∷ []) ∷ (0x01 ∷ 0x02 ∷ 0x61 ∷ []) ∷ []) ≡ None ∷ None ∷ None ∷ None ∷ None ∷ None ∷ []) ×
+    (keys_of (0x02 ∷ 0x01 ∷ 0xFF ∷ 0x00 ∷ []) ≡ Some ((0xFF ∷ []) ∷ [] ∷ [])) ×
     (find_of (0x02 ∷ []) [] ≡ refused 33 [] 0) ×
     (find_of (0x02 ∷ []) (0x01 ∷ 0x01 ∷ 0xFF ∷ []) ≡ not_found) ×
     (find_of (0x0C ∷ 0x03 ∷ 0x01 ∷ []) [] ≡ refused 21 (DictionaryKeyOrEndCollection ∷ Integer ∷ []) 1) ×

@@ -1,6 +1,5 @@
 -- What a lookup answers. docs/FORMAT.md, rules Q6 and Q7.
-use Rattle.std.specs.Prelude.{List, [], ℕ, ◌-◌, length}
-use Rattle.std.proofs.Math.Option.{Option, none, some}
+use Rattle.std.specs.Prelude.{Some, None, List, [], ℕ, ◌-◌, length, Option}
 use Rattle.number.specs.Part.{part}
 use Rattle.event.specs.Meaning.{Meaning}
 use Rattle.tape.specs.Events.{tape_of, meanings_in}
@@ -12,12 +11,18 @@ use Rattle.lookup.specs.Path.{keys_of}
 use Rattle.lookup.specs.Value.{value_from, from_path}
 use Rattle.lookup.specs.declared.answer.Found.{Found}
 use Rattle.lookup.specs.declared.answer.Found.TheVariants.{Part, Nowhere, Refused, BadPath}
+use Rattle.lookup.specs.declared.answer.Part.{Part as Place}
 
 -- where the part begins and how long it is; that there is none; or a refusal's number, what it names as expected and found, and its place
 pub data Said : Type 0 where
   found : ℕ → ℕ → Said
   not_found : Said
   refused : ℕ → List EventKind → ℕ → Said
+
+-- what a part that is found says, or that there is none
+unfoldable pub part_said : Option Place → Said
+part_said (Some part) = found part.start part.length
+part_said None = not_found
 
 -- what the code's answer says
 unfoldable pub found_said : Found → Said
@@ -28,12 +33,12 @@ found_said BadPath = refused 33 [] 0
 
 -- Q6: the part of the tape that has the bytes of the value's events, which are the first of those from the value on
 unfoldable pub placed : List ℕ → Option (List Meaning) → Said
-placed tape none = not_found
-placed tape (some ms) = found (length tape - length (tape_of ms)) (length (tape_of (value_from 0 ms)))
+placed tape None = not_found
+placed tape (Some ms) = found (length tape - length (tape_of ms)) (length (tape_of (value_from 0 ms)))
 
 unfoldable pub by_path : List ℕ → Option (List (List ℕ)) → List Meaning → Said
-by_path tape none ms = refused 33 [] 0
-by_path tape (some keys) ms = placed tape (from_path keys ms)
+by_path tape None ms = refused 33 [] 0
+by_path tape (Some keys) ms = placed tape (from_path keys ms)
 
 -- Q7: what the check of the tape says, then the path
 unfoldable pub by_check : check.Said → List ℕ → Option (List (List ℕ)) → Said

@@ -1,12 +1,9 @@
 -- The events that stand on a tape from a place on.
-use Rattle.std.specs.Prelude.{cond, List, ◌≡◌, ℕ, suc, ◌-◌, ◌≤◌, ltb, length, drop}
-use Rattle.std.proofs.Math.Option.{Option, none, some}
+use Rattle.std.specs.Prelude.{cond, Some, None, List, ◌≡◌, ℕ, suc, ◌-◌, ◌≤◌, ltb, length, drop, Option}
 use Rattle.number.specs.BeLaws.{Bytes}
 use Rattle.event.specs.Meaning.{Meaning}
 use Rattle.tape.specs.Events.{tape_of, meanings_in}
 use Rattle.tape.proofs.EventsLaws.{AllOnTape}
-use Rattle.lookup.specs.declared.seek.Place.{Place}
-use Rattle.lookup.specs.declared.seek.Place.TheVariants.{At, Nowhere}
 
 unfoldable pub events_at : List ℕ → ℕ → List Meaning
 events_at tape at = meanings_in (drop at tape)
@@ -23,8 +20,8 @@ unfoldable pub deeper_by : ℕ → ℕ → ℕ
 deeper_by d kind = cond (ltb kind 0x0A) d (cond (ltb kind 0x0E) (suc d) (d - 1))
 
 -- a place is where these events begin
-abbrev pub Placed : List ℕ → Place → Option (List Meaning) → Type 0
-Placed tape (At at) (some ms) = Rest tape at ms
-Placed tape (At at) none = ⊥
-Placed tape Nowhere (some ms) = ⊥
-Placed tape Nowhere none = Unit {0}
+abbrev pub Placed : List ℕ → Option ℕ → Option (List Meaning) → Type 0
+Placed tape (Some at) (Some ms) = Rest tape at ms
+Placed tape (Some at) None = ⊥
+Placed tape None (Some ms) = ⊥
+Placed tape None None = Unit {0}

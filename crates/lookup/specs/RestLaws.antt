@@ -1,7 +1,6 @@
 -- Walking along events that stand on a tape: the first of them, and those behind it.
-use Rattle.std.specs.Prelude.{true, false, ◌≡◌, ℕ, ◌+◌, ◌-◌, ◌≤◌, ◌<◌, pos, negsuc, get_or, drop}
+use Rattle.std.specs.Prelude.{true, false, ◌≡◌, ℕ, ◌+◌, ◌-◌, ◌≤◌, ◌<◌, pos, negsuc, get_or, drop, None, Some}
 use mathlib.Core.List.{List, [], ◌∷◌, ◌++◌}
-use Rattle.std.proofs.Math.Option.{none, some}
 use Rattle.std.proofs.Math.Path.{refl, ap, sym}
 use Rattle.std.proofs.Common.{◌∙◌, arith, length-drop, drop-drop}
 use Rattle.std.proofs.Math.ListN.{length, take, length-append, take-append-drop}
@@ -86,10 +85,10 @@ module _ {tape : List ℕ} {at : ℕ} {m : Meaning} {ms : List Meaning} (r : Res
 -- a kind tells how many containers are open behind the event
 pub kind_deeper : (d : ℕ) (m : Meaning) (k : ℕ) (s : List ℕ) → bytes_for m ≡ k ∷ s → deeper_by d k ≡ deeper d m
 unfolding bytes_for deeper deeper_by
-kind_deeper d (array none) k s e = let z : 0x0A ≡ k = cc in rw (← z)
-kind_deeper d (array (some n)) k s e = let z : 0x0B ≡ k = cc in rw (← z)
-kind_deeper d (dictionary none) k s e = let z : 0x0C ≡ k = cc in rw (← z)
-kind_deeper d (dictionary (some n)) k s e = let z : 0x0D ≡ k = cc in rw (← z)
+kind_deeper d (array None) k s e = let z : 0x0A ≡ k = cc in rw (← z)
+kind_deeper d (array (Some n)) k s e = let z : 0x0B ≡ k = cc in rw (← z)
+kind_deeper d (dictionary None) k s e = let z : 0x0C ≡ k = cc in rw (← z)
+kind_deeper d (dictionary (Some n)) k s e = let z : 0x0D ≡ k = cc in rw (← z)
 kind_deeper d close k s e = let z : 0x0E ≡ k = cc in rw (← z)
 kind_deeper d (boolean false) k s e = let z : 0x01 ≡ k = cc in rw (← z)
 kind_deeper d (boolean true) k s e = let z : 0x02 ≡ k = cc in rw (← z)

@@ -1,16 +1,16 @@
 // A path made of keys, one after another.
-ghost use Rattle.std.specs.Prelude.{◌≡◌, ◌+◌, ◌≤◌, length};
+ghost use Rattle.std.specs.Prelude.{◌≡◌, ◌+◌, length};
 ghost use Rattle.number.specs.Part.{part};
 ghost use Rattle.tape.specs.Append.{put_to};
 ghost use Rattle.tape.specs.Seven.{seven};
-ghost use Rattle.lookup.specs.Append.{grown, moved, added_in, added_of, added_to, Growing};
+ghost use Rattle.lookup.specs.Append.{grown, added_in, added_of, added_to, Growing};
 
 use crate::path::has_keys;
 use number::copy::write_bytes;
 use tape::append::Appended;
 use tape::room::lacks_room;
 use tape::unchecked::put_number;
-use tape::value::{Value, number_at};
+use tape::value::number_at;
 
 // How many bytes the path has then, or why no key is added.
 #[derive(Clone, Copy)]
@@ -31,13 +31,13 @@ pub fn append_key(path: &mut [u8], held: usize, key: &[u8]) -> Added
     if path.len() < held {
         return Added::NotPath;
     }
-    let Value::Of(count, first) = number_at(&path[..held], 0) else {
+    let Some((count, first)) = number_at(&path[..held], 0) else {
         return Added::NotPath;
     };
-    if has_keys(&path[..held], count, first) {
-        return grow(path, held, count, first, key);
+    if !has_keys(&path[..held], count, first) {
+        return Added::NotPath;
     }
-    Added::NotPath
+    grow(path, held, count, first, key)
 }
 
 // `count` keys stand from `first` on up to `held`, behind their count. They move up where the new count is longer.
@@ -56,7 +56,7 @@ fn grow(path: &mut [u8], held: usize, count: u64, first: usize, key: &[u8]) -> A
     if lacks_room(path.len(), start, key.len()) {
         return Added::NoRoom;
     }
-    move_up(path, first, held, up);
+    path.copy_within(first..held, first + up);
     write_bytes(path, 0, &counted[1..count_end]);
     write_bytes(path, at, &measured[1..length_end]);
     write_bytes(path, start, key);
@@ -73,17 +73,5 @@ fn groups(memory: &mut [u8], n: u64) -> usize
         Appended::Held(end) => end,
         Appended::BadEvent(_) => 0,
         Appended::NoRoom(_) => 0,
-    }
-}
-
-// The bytes between two places go up, the last one first.
-fn move_up(path: &mut [u8], from: usize, to: usize, by: usize)
-    requires { (from ≤ to) × (to + by ≤ length path.old) }
-    ensures { path.new ≡ moved path.old from to by }
-{
-    let mut i = to;
-    while from < i {
-        i -= 1;
-        path[i + by] = path[i];
     }
 }

@@ -2,16 +2,16 @@
 ghost use Rattle.std.specs.Prelude.{true, ◌≡◌};
 ghost use Rattle.number.specs.BeLaws.{Bytes};
 ghost use Rattle.tape.specs.Events.{meanings_in};
-ghost use Rattle.lookup.specs.Find.{found_said, by_path, find_of, part_of};
+ghost use Rattle.lookup.specs.Find.{found_said, part_said, by_path, find_of, part_of};
 ghost use Rattle.lookup.specs.Path.{is_some, keys_of, keys_from};
 ghost use Rattle.lookup.specs.Rest.{Rest};
 
-use crate::answer::Found;
-use crate::path::{Key, has_keys, key_at};
-use crate::seek::{Place, value_end, value_under};
+use crate::answer::{Found, Part};
+use crate::path::{has_keys, key_at};
+use crate::seek::{value_end, value_under};
 use grammar::answer::Checked;
 use grammar::check::check_tape;
-use tape::value::{Value, number_at};
+use tape::value::number_at;
 
 // The tape is checked first, then the path. That the tape is bytes only code knows, and what is proved of the part asks for it.
 pub fn find(tape: &[u8], path: &[u8]) -> Found
@@ -44,33 +44,30 @@ fn find_in(tape: &[u8], path: &[u8]) -> Found
     requires { Rest tape.now 0 (meanings_in tape.now) }
     ensures { found_said result ≡ by_path tape.now (keys_of path.now) (meanings_in tape.now) }
 {
-    let Value::Of(count, first) = number_at(path, 0) else {
+    let Some((count, first)) = number_at(path, 0) else {
         return Found::BadPath;
     };
-    if has_keys(path, count, first) {
-        return find_under(tape, path, count, first);
+    if !has_keys(path, count, first) {
+        return Found::BadPath;
     }
-    Found::BadPath
+    match find_under(tape, path, count, first) {
+        Some(part) => Found::Part(part.start, part.length),
+        None => Found::Nowhere,
+    }
 }
 
-// The path has its keys. `left` of them stand from `key` on; the value under those before them begins at `at`.
-fn find_under(tape: &[u8], path: &[u8], count: u64, first: usize) -> Found
+// The path has its keys. The next one stands at `next`; the value under those before it begins at `at`.
+fn find_under(tape: &[u8], path: &[u8], count: u64, first: usize) -> Option<Part>
     requires { Rest tape.now 0 (meanings_in tape.now) × (is_some (keys_from count path.now first) ≡ true) }
-    ensures { found_said result ≡ by_path tape.now (keys_from count path.now first) (meanings_in tape.now) }
+    ensures { part_said result ≡ by_path tape.now (keys_from count path.now first) (meanings_in tape.now) }
 {
-    let mut left: u64 = count;
-    let mut key: usize = first;
-    let mut at: usize = 0;
-    while 0 < left {
-        let Key::Of(start, n) = key_at(path, key) else {
-            return Found::Nowhere;
-        };
-        key = start + n;
-        let Place::At(value) = value_under(tape, at, &path[start..key]) else {
-            return Found::Nowhere;
-        };
-        at = value;
-        left -= 1;
+    let mut next = first;
+    let mut at = 0;
+    for _ in 0..count {
+        let key = key_at(path, next)?;
+        next = key.start + key.length;
+        at = value_under(tape, at, &path[key.start..next])?;
     }
-    Found::Part(at, value_end(tape, at) - at)
+    let length = value_end(tape, at) - at;
+    Some(Part { start: at, length })
 }

@@ -1,25 +1,14 @@
 -- Bytes copied in parts, in parts that overlap, and up to the end of the memory.
-use mathlib.Core.Bool.{cond}
+use mathlib.Core.Bool.{Bool, true, false}
 use mathlib.Core.List.{List, [], ◌∷◌, append-nil}
 use mathlib.Core.Path.{◌≡◌, refl, sym, ap, ◌∙◌}
-use Prim.Native.Nat.{ℕ, zero, suc, ◌+◌, ◌-◌, ◌≤◌, ◌<◌}
+use Prim.Native.Nat.{ℕ, zero, suc, ◌+◌, ◌-◌, ◌≤◌, ◌<◌, min}
 use native.Mathlib.Nat.{add-zero, zero-add, add-suc, suc-add}
 use native.Mathlib.Omega.{arith}
 use borrow.Author.Tests.{leb-true, leb-false}
 use lib.Dec.{leb}
 use lib.ListN.{length, take, drop, set, drop_of_length-le, length-drop}
 use lib.Seq.{sets, sets-eq, length-sets, set_out, set-set, set_comm, take_all}
-use Rattle.number.specs.Either.{either}
-
--- the smaller of two numbers
-abbrev pub smaller : ℕ → ℕ → ℕ
-smaller a b = cond (leb a b) a b
-
-pub smaller_left : (a b : ℕ) → smaller a b ≤ a
-smaller_left a b = either (λ (r : ℕ). r ≤ a) (leb a b) a b (λ e. omega arith) (λ e. let h : b < a = leb-false a b e in omega arith)
-
-pub smaller_right : (a b : ℕ) → smaller a b ≤ b
-smaller_right a b = either (λ (r : ℕ). r ≤ b) (leb a b) a b (λ e. leb-true a b e) (λ e. omega arith)
 
 -- beyond the end nothing is stored
 pub sets_out : (vs l : List ℕ) (i : ℕ) → length l ≤ i → sets l i vs ≡ l
@@ -66,15 +55,18 @@ overlapped i last s l at le h =
 pub whole : (l s : List ℕ) → length s ≡ length l → sets l 0 s ≡ s
 whole l s h = sets-eq s l 0 (omega arith) ∙ rw (zero-add, h, drop_of_length-le l {i = length l} (omega arith)) (append-nil s)
 
-pub copied : (out bytes : List ℕ) (at i : ℕ) → at ≤ length out → smaller (length bytes) (length out - at) ≤ i → sets out (at + i) (drop i bytes) ≡ out
-copied out bytes at i inside = either (λ (r : ℕ). r ≤ i → sets out (at + i) (drop i bytes) ≡ out) (leb (length bytes) (length out - at)) _ _
-    (λ e h. rw (drop_of_length-le bytes {i = i} h))
-    (λ e h. sets_out (drop i bytes) out (at + i) (omega arith))
+copied : (out bytes : List ℕ) (at i : ℕ) → at ≤ length out → min (length bytes) (length out - at) ≤ i → sets out (at + i) (drop i bytes) ≡ out
+copied out bytes at i inside h = go (leb (length bytes) i) refl
+  where
+    go : (b : Bool) → leb (length bytes) i ≡ b → sets out (at + i) (drop i bytes) ≡ out
+    go true e = let le : length bytes ≤ i = leb-true (length bytes) i e in rw (drop_of_length-le bytes {i = i} le)
+    go false e = let lt : i < length bytes = leb-false (length bytes) i e in sets_out (drop i bytes) out (at + i) (omega arith)
 
 -- so the bytes that have room are all that are stored
-pub cut : (out bytes : List ℕ) (at end : ℕ) → at ≤ length out → end ≡ smaller (length bytes) (length out - at) → sets out at (take end bytes) ≡ sets out at bytes
+pub cut : (out bytes : List ℕ) (at end : ℕ) → at ≤ length out → end ≡ min (length bytes) (length out - at) → sets out at (take end bytes) ≡ sets out at bytes
 cut out bytes at end inside e =
     let m : List ℕ = sets out at (take end bytes) in
-    let few : end ≤ length bytes = rw e (smaller_left (length bytes) (length out - at)) in
     let k : length m ≡ length out = length-sets out at (take end bytes) in
-    sym (copied m bytes at end (rw k inside) (rw (k, ← e) (omega arith))) ∙ sets_rest end bytes out at few
+    sym (copied m bytes at end (rw k inside) (rw (k, ← e) (omega arith))) ∙ sets_rest end bytes out at (omega arith)
+
+pub ruleset copy_steps = (whole, sets_out, cut)

@@ -1,10 +1,9 @@
 -- Cases of numbers of docs/FORMAT.md, computed: P1, and the bits of P2, P3 and P4.
-use Rattle.std.specs.Prelude.{◌≡◌, refl, [], ◌∷◌, ◌++◌, map, negsuc, replicate}
+use Rattle.std.specs.Prelude.{◌≡◌, refl, [], ◌∷◌, ◌++◌, map, negsuc, replicate, Some}
 use Rattle.number.specs.Be.{be, onto}
 use Rattle.number.specs.Read.{halves_of}
 use Rattle.number.specs.Signed.{signed_of}
 use Rattle.number.specs.Size.{size_of, rounded, needed}
-use Rattle.number.specs.declared.be.WideNumber.TheVariants.{Of}
 
 -- P1: 0 and 255 give 1, 256 and 65,535 give 2, 65,536 gives 4, 4,294,967,296 gives 8
 pub p1 : map size_of (0 ∷ 255 ∷ 256 ∷ 65_535 ∷ 65_536 ∷ 4_294_967_295 ∷ 4_294_967_296 ∷ []) ≡ 1 ∷ 1 ∷ 2 ∷ 2 ∷ 4 ∷ 4 ∷ 8 ∷ []
@@ -26,6 +25,6 @@ unfolding signed_of be onto
 minus_one_bits = refl
 
 -- P4: eight 00 and eight FF is 18,446,744,073,709,551,615 in two halves
-pub p4_bits : halves_of (replicate 8 0 ++ replicate 8 0xFF) ≡ Of (record { high = 0; low = 18_446_744_073_709_551_615 })
+pub p4_bits : halves_of (replicate 8 0 ++ replicate 8 0xFF) ≡ Some (record { high = 0; low = 18_446_744_073_709_551_615 })
 unfolding halves_of be onto
 p4_bits = refl

@@ -1,5 +1,5 @@
 -- Laws of parts: bytes of bytes are bytes, how long a part is, the number that it is.
-use Rattle.std.specs.Prelude.{List, [], ◌∷◌, ◌++◌, ◌≡◌, refl, ℕ, zero, suc, ◌+◌, ◌-◌, ◌*◌, ◌/◌, ◌^◌, ◌≤◌, ◌<◌, take, drop}
+use Rattle.std.specs.Prelude.{List, [], ◌∷◌, ◌++◌, ◌≡◌, refl, ℕ, zero, suc, ◌+◌, ◌-◌, ◌*◌, ◌/◌, ◌^◌, ◌≤◌, ◌<◌, take, drop, Some}
 use Rattle.std.proofs.Common.{sym, ap, ◌∙◌, pow-suc, arith, length-drop, take-append-drop, pow-add, length-take-le, take-add, take-take, drop-drop}
 use Rattle.std.proofs.Math.Nat.{add-sub_cancel_left}
 use borrow.Author.Tests.{ne_eqb, le-ltb}
@@ -9,7 +9,6 @@ use Rattle.number.specs.Be.{be}
 use Rattle.number.specs.BeLaws.{Bytes, be_lt, be_halves}
 use Rattle.number.specs.Part.{part}
 use Rattle.number.specs.Read.{number_of}
-use Rattle.number.specs.declared.be.Number.TheVariants.{Of}
 
 pub bytes_take : (n : ℕ) (s : List ℕ) → Bytes s → Bytes (take n s)
 bytes_take zero s b = tt
@@ -31,7 +30,7 @@ module _ (s : List ℕ) (at n : ℕ) (fits : at + n ≤ length s) where
   part_lt b = rw length_part at (be_lt (part s at n) (bytes_take n (drop at s) (bytes_drop at s b)))
 
   -- one of 1 to 8 bytes is read; the code's part ends at `at + n`
-  pub number_part : 0 < n → n ≤ 8 → number_of (take (at + n - at) (drop at s)) ≡ Of (be (part s at n))
+  pub number_part : 0 < n → n ≤ 8 → number_of (take (at + n - at) (drop at s)) ≡ Some (be (part s at n))
   unfolding number_of
   number_part low high =
       let e : length (part s at n) ≡ n = length_part in

@@ -1,7 +1,5 @@
 -- Signed numbers of 64 bits; `pos n` is n and `negsuc k` is -1 - k.
-use Rattle.std.specs.Prelude.{cond, ℕ, ◌-◌, ltb, ℤ, pos, negsuc}
-use Rattle.number.specs.declared.signed.Negative.{Negative}
-use Rattle.number.specs.declared.signed.Negative.TheVariants.{Of, TooLow}
+use Rattle.std.specs.Prelude.{cond, ℕ, ◌-◌, ltb, ℤ, pos, negsuc, None, Option, Some}
 
 -- two's complement of 8 bytes: n below 2^63, else n - 2^64, which is -1 - (2^64 - 1 - n)
 unfoldable pub signed_of : ℕ → ℤ
@@ -18,5 +16,5 @@ magnitude_of (pos n) = n
 magnitude_of (negsuc k) = k
 
 -- and back: no integer is below -2^63 (T3)
-unfoldable pub negative_of : ℕ → Negative
-negative_of k = cond (ltb k 0x8000_0000_0000_0000) (Of (negsuc k)) TooLow
+unfoldable pub negative_of : ℕ → Option ℤ
+negative_of k = cond (ltb k 0x8000_0000_0000_0000) (Some (negsuc k)) None

@@ -1,9 +1,8 @@
 -- Laws of signed numbers of 64 bits: each change is undone by the other.
-use Rattle.std.specs.Prelude.{Bool, true, false, ◌≡◌, refl, ℕ, ◌-◌, ◌<◌, ◌^◌, ltb, ℤ, pos, negsuc}
+use Rattle.std.specs.Prelude.{Bool, true, false, ◌≡◌, refl, ℕ, ◌-◌, ◌<◌, ◌^◌, ltb, ℤ, pos, negsuc, Some}
 use Rattle.std.proofs.Common.{ap, arith, lt-ltb, le-ltb, SFits}
 use Rattle.std.specs.Int.{w64}
 use Rattle.number.specs.Signed.{signed_of, bits_of, magnitude_of, negative_of}
-use Rattle.number.specs.declared.signed.Negative.TheVariants.{Of}
 
 -- every pattern of 64 bits is that of the number it is
 pub bits_signed : (n : ℕ) → n < 2 ^ 64 → bits_of (signed_of n) ≡ n
@@ -23,6 +22,6 @@ signed_bits (negsuc k) f =
     rw (le-ltb (0xffff_ffff_ffff_ffff - k) 0x8000_0000_0000_0000 (omega arith)) (ap negsuc (let e : 0xffff_ffff_ffff_ffff - (0xffff_ffff_ffff_ffff - k) ≡ k = omega arith in e))
 
 -- a negative number is -1 less its magnitude again
-pub negative_magnitude : (k : ℕ) → k < 2 ^ 63 → negative_of (magnitude_of (negsuc k)) ≡ Of (negsuc k)
+pub negative_magnitude : (k : ℕ) → k < 2 ^ 63 → negative_of (magnitude_of (negsuc k)) ≡ Some (negsuc k)
 unfolding negative_of magnitude_of
 negative_magnitude k h = rw (lt-ltb k 0x8000_0000_0000_0000 h)

@@ -108,3 +108,5 @@ module _ (n : ℕ) where
   size_eight g =
       let four : 4 < needed 8 n = needed_gt 8 4 n (lit< tt) g in
       rw (lt-leb (needed 8 n) 1 (omega arith), lt-leb (needed 8 n) 2 (omega arith), lt-leb (needed 8 n) 4 four)
+
+pub ruleset size_by_bounds = (size_one, size_two, size_four, size_eight)

@@ -1,8 +1,7 @@
 -- Laws of widths.
-use Rattle.std.specs.Prelude.{◌≤◌, ◌<◌, ◌≡◌, refl}
+use Rattle.std.specs.Prelude.{◌≤◌, ◌<◌, ◌≡◌, refl, Some}
 use Rattle.std.proofs.Common.{lit<, lit≤}
 use Rattle.number.specs.Width.{bytes_in, width_of}
-use Rattle.number.specs.declared.width.Size.TheVariants.{Allowed}
 use Rattle.number.specs.declared.width.Width.{Width}
 use Rattle.number.specs.declared.width.Width.TheVariants.{One, Two, Three, Four, Eight}
 
@@ -24,7 +23,7 @@ bytes_in_le Four = lit≤ tt
 bytes_in_le Eight = lit≤ tt
 
 -- the size of a width is an allowed one, and gives it back
-pub allowed : (w : Width) → width_of (bytes_in w) ≡ Allowed w
+pub allowed : (w : Width) → width_of (bytes_in w) ≡ Some w
 unfolding width_of bytes_in
 allowed One = refl
 allowed Two = refl

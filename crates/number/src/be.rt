@@ -3,13 +3,6 @@ ghost use Rattle.std.specs.Prelude.{◌≡◌, ◌+◌, ◌*◌, ◌^◌, ◌≤
 ghost use Rattle.number.specs.Be.{be, bytes_of};
 ghost use Rattle.number.specs.Read.{number_of, halves_of};
 
-// What a part of a slice says when it is read as a number.
-#[derive(Clone, Copy)]
-pub enum Number {
-    Of(u64),
-    NoNumber,
-}
-
 // A number of 16 bytes.
 #[derive(Clone, Copy)]
 pub struct Halves {
@@ -17,23 +10,17 @@ pub struct Halves {
     pub low: u64,
 }
 
-#[derive(Clone, Copy)]
-pub enum WideNumber {
-    Of(Halves),
-    NoNumber,
-}
-
 // The number of a part of 1 to 8 bytes. A part of any other length is none.
-pub fn read_be(part: &[u8]) -> Number
+pub fn read_be(part: &[u8]) -> Option<u64>
     ensures { result ≡ number_of part.now }
 {
     if part.len() == 0 {
-        return Number::NoNumber;
+        return None;
     }
     if 8 < part.len() {
-        return Number::NoNumber;
+        return None;
     }
-    Number::Of(horner(part))
+    Some(horner(part))
 }
 
 // The number of the first eight bytes of a part, or of all where there are fewer. Eight bytes are one load and a change of their order; a
@@ -48,27 +35,25 @@ pub fn read_eight(part: &[u8]) -> u64
 }
 
 // The number of a part of 16 bytes, as two halves. A part of any other length is none.
-pub fn read_halves(part: &[u8]) -> WideNumber
+pub fn read_halves(part: &[u8]) -> Option<Halves>
     ensures { result ≡ halves_of part.now }
 {
     if part.len() != 16 {
-        return WideNumber::NoNumber;
+        return None;
     }
     let high = horner(&part[..8]);
     let low = horner(&part[8..]);
-    WideNumber::Of(Halves { high, low })
+    Some(Halves { high, low })
 }
 
 // The low bytes of a number, as many as the part has; above the number's own they are zero.
 pub fn write_be(part: &mut [u8], n: u64)
     ensures { part.new ≡ bytes_of (length part.old) n }
 {
-    let mut k: usize = part.len();
-    let mut left: u64 = n;
-    while 0 < k {
-        k -= 1;
+    let mut left = n;
+    for k in (0..part.len()).rev() {
         part[k] = (left % 256) as u8;
-        left = left / 256;
+        left /= 256;
     }
 }
 
@@ -91,11 +76,8 @@ fn horner(part: &[u8]) -> u64
     ensures { result ≡ be part.now }
 {
     let mut sum: u64 = 0;
-    let mut k: usize = 0;
-    while k < part.len() {
-        let byte = part[k] as u64;
-        sum = sum * 256 + byte;
-        k += 1;
+    for &byte in part {
+        sum = sum * 256 + u64::from(byte);
     }
     sum
 }

@@ -3,17 +3,14 @@ ghost use Rattle.std.specs.Prelude.{◌≡◌};
 ghost use Rattle.number.specs.Size.{size_of};
 
 // The size for numbers up to a maximum: 1, 2, 4 or 8 bytes.
+#[tactic(auto, using(crate::specs::SizeLaws::size_by_bounds))]
 pub fn size_for(max: u64) -> usize
     ensures { result ≡ size_of max }
 {
-    if max < 0x100 {
-        return 1;
+    match max {
+        ..0x100 => 1,
+        ..0x1_0000 => 2,
+        ..0x1_0000_0000 => 4,
+        _ => 8,
     }
-    if max < 0x1_0000 {
-        return 2;
-    }
-    if max < 0x1_0000_0000 {
-        return 4;
-    }
-    8
 }

@@ -4,41 +4,29 @@ ghost use Rattle.number.specs.Width.{width_of, bytes_in};
 
 #[derive(Clone, Copy)]
 pub enum Width {
-    One,
-    Two,
-    Three,
-    Four,
-    Eight,
+    One = 1,
+    Two = 2,
+    Three = 3,
+    Four = 4,
+    Eight = 8,
 }
 
-// What a size byte says.
-#[derive(Clone, Copy)]
-pub enum Size {
-    Allowed(Width),
-    NotAllowed,
-}
-
-pub fn width_of(size: u8) -> Size
+pub fn width_of(size: u8) -> Option<Width>
     ensures { result ≡ width_of size }
 {
     match size {
-        1 => Size::Allowed(Width::One),
-        2 => Size::Allowed(Width::Two),
-        3 => Size::Allowed(Width::Three),
-        4 => Size::Allowed(Width::Four),
-        8 => Size::Allowed(Width::Eight),
-        _ => Size::NotAllowed,
+        1 => Some(Width::One),
+        2 => Some(Width::Two),
+        3 => Some(Width::Three),
+        4 => Some(Width::Four),
+        8 => Some(Width::Eight),
+        _ => None,
     }
 }
 
+#[tactic(auto, unfolding(crate::specs::Width::bytes_in))]
 pub fn bytes_in(width: Width) -> usize
     ensures { result ≡ bytes_in width }
 {
-    match width {
-        Width::One => 1,
-        Width::Two => 2,
-        Width::Three => 3,
-        Width::Four => 4,
-        Width::Eight => 8,
-    }
+    width as usize
 }

@@ -1,4 +1,4 @@
 pub mod Containers
-pub mod Room
 pub mod Wide
 pub mod EndLaws
+pub mod Rules

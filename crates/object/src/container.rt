@@ -12,6 +12,7 @@ pub enum Container {
 }
 
 // The head is read in one place and before the marker is looked at, so that the compiler puts this small function into its callers.
+#[tactic(auto, using(crate::proofs::Rules::containers), unfolding(crate::specs::Container::array_of, crate::specs::Container::dictionary_of))]
 pub fn container_at(file: &[u8], offset: usize) -> Container
     ensures { result ≡ container_at file.now offset }
 {

@@ -5,7 +5,6 @@ ghost use Rattle.number.specs.Part.{part};
 ghost use Rattle.object.specs.Content.{length_width, extent_at, has_length, head_at, ends_before, content_at};
 
 use crate::refusal::Refusal;
-use event::limits::MAX_LENGTH;
 use number::be::read_eight;
 
 // Where the content of an object stands, and how many elements it has: bytes, units, references or pairs.
@@ -22,15 +21,11 @@ pub enum Content {
 }
 
 // How many bytes a length has, by the byte in front of it.
+#[tactic(auto, unfolding(crate::specs::Content::length_width))]
 fn length_width(byte: u8) -> usize
     ensures { result ≡ length_width byte }
 {
-    match byte % 4 {
-        0 => 1,
-        1 => 2,
-        2 => 4,
-        _ => 8,
-    }
+    1 << (byte % 4)
 }
 
 // The number of 1 to 8 bytes that stand in the file. Eight bytes are read at once, whatever the width, and the rest is dropped: some 20
@@ -45,6 +40,7 @@ pub(crate) fn be_at(file: &[u8], at: usize, width: usize) -> u64
 }
 
 // The extent of an object whose marker has these low four bits; its head lies within the file.
+#[tactic(auto, using(crate::proofs::Rules::lengths), unfolding(crate::specs::Content::extent_at))]
 fn extent_at(file: &[u8], offset: usize, nibble: u8) -> Extent
     requires { offset + 10 ≤ length file.now }
     ensures { result ≡ extent_at file.now offset nibble }
@@ -64,21 +60,16 @@ fn extent_at(file: &[u8], offset: usize, nibble: u8) -> Extent
 }
 
 // Whether the length stands where it should: in the marker, or behind a byte of 10 to 13.
+#[tactic(auto, unfolding(crate::specs::Content::has_length, crate::specs::Content::is_length_byte))]
 fn has_length(file: &[u8], offset: usize, nibble: u8) -> bool
     requires { offset + 10 ≤ length file.now }
     ensures { result ≡ has_length file.now offset nibble }
 {
-    if nibble != 15 {
-        return true;
-    }
-    let byte = file[offset + 1];
-    if byte < 0x10 {
-        return false;
-    }
-    byte <= 0x13
+    nibble != 15 || matches!(file[offset + 1], 0x10..=0x13)
 }
 
 // What such an object's head tells: its extent, or the refusal of the byte in front of its length.
+#[tactic(auto, unfolding(crate::specs::Content::head_at))]
 pub(crate) fn head_at(file: &[u8], offset: usize, nibble: u8) -> Content
     requires { offset + 10 ≤ length file.now }
     ensures { result ≡ head_at file.now offset nibble }
@@ -89,27 +80,21 @@ pub(crate) fn head_at(file: &[u8], offset: usize, nibble: u8) -> Content
     Content::Refused(Refusal::InvalidObjectLength)
 }
 
-// Whether content of so many elements, of so many bytes each, ends at or before the trailer. In a file that is read the product fits, and
-// it takes some 20 cycles less than the quotient.
+// Whether content of so many elements, of so many bytes each, ends at or before the trailer.
+#[tactic(auto, unfolding(crate::specs::Content::ends_before))]
 fn has_room(file: &[u8], start: usize, count: u64, each: usize) -> bool
     requires { (32 ≤ length file.now) × (0 < each) × (each ≤ 16) }
     ensures { result ≡ ends_before file.now (start + count * each) }
 {
     let top = file.len() - 32;
-    if top < start {
+    let Some(bytes) = count.checked_mul(each as u64) else {
         return false;
-    }
-    let room = top - start;
-    if MAX_LENGTH < file.len() {
-        return count <= (room / each) as u64;
-    }
-    if (room as u64) < count {
-        return false;
-    }
-    count * each as u64 <= room as u64
+    };
+    start <= top && bytes <= (top - start) as u64
 }
 
 // The content of such an object, where it ends at or before the trailer.
+#[tactic(auto, unfolding(crate::specs::Content::content_at, crate::specs::Content::measured))]
 pub(crate) fn content_at(file: &[u8], offset: usize, nibble: u8, each: usize) -> Content
     requires { (offset + 32 ≤ length file.now) × (0 < each) × (each ≤ 16) }
     ensures { result ≡ content_at file.now offset nibble each }

@@ -24,6 +24,7 @@ pub enum Kind {
     Unknown(u8),
 }
 
+#[tactic(auto, using(crate::proofs::Rules::kinds), unfolding(crate::specs::Kind::kind_of))]
 pub fn kind_of(marker: u8) -> Kind
     ensures { result ≡ kind_of marker }
 {

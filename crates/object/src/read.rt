@@ -122,6 +122,7 @@ fn crosses(file: &[u8], offset: usize, width: usize) -> bool
     file.len() - 32 - offset <= width
 }
 
+#[tactic(auto, unfolding(crate::specs::Found::found_of))]
 fn integer(i: Integer) -> Object
     ensures { found_of result ≡ scalar (IntegerEvent i) }
 {
@@ -129,6 +130,7 @@ fn integer(i: Integer) -> Object
 }
 
 // A date is finite.
+#[tactic(auto, unfolding(crate::specs::Found::found_of, crate::specs::Object::date_of))]
 fn date(bits: u64) -> Object
     ensures { found_of result ≡ date_of bits }
 {

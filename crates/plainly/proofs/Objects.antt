@@ -2,6 +2,7 @@
 use mathlib.Core.Bool.{true, false, cond}
 use mathlib.Core.List.{List, [], ◌∷◌, ◌++◌}
 use mathlib.Core.Path.{◌≡◌, refl, sym, ap, ◌∙◌}
+use Rattle.std.specs.Prelude.{Result, Ok, Err}
 use Prim.Native.Nat.{ℕ, zero, suc, ◌+◌, ◌≤◌, ◌<◌}
 use native.Mathlib.Numerals.{add-one}
 use native.Mathlib.Omega.{arith}
@@ -32,12 +33,10 @@ use Rattle.plainly.specs.Said.{ending_said, went_said}
 use Rattle.plainly.specs.Says.{Says, refusal, whole_of, by_look, object_says}
 use Rattle.plainly.specs.declared.Far.{Far}
 use Rattle.plainly.specs.declared.Reading.{Reading}
-use Rattle.plainly.specs.declared.Went.{Went}
-use Rattle.plainly.specs.declared.Went.TheVariants.{On, Over}
 
 -- what is over with a refusal
 pub over_refused : (x : Reading) (number : ℕ) (values : List ℕ) (place held : ℕ) (tape : List ℕ) → ending_said x.ending ≡ stopped number values place → x.held ≡ held
-    → went_said (Over x) tape ≡ put (refused_with number values place) held tape
+    → went_said (Err x) tape ≡ put (refused_with number values place) held tape
 unfolding went_said
 over_refused x number values place held tape e h = rw (e, h)
 
@@ -120,19 +119,19 @@ module _ (file : List ℕ) (l : Layout) (opened : List ℕ) (place n : ℕ) wher
         object_deep left z m = sym (ap (say_onto budget held tape) (object_is left ∙ rw (is_container, m, z)) ∙ refused_said budget held tape 15 [] offset)
 
         -- its start was put
-        module _ (left less : ℕ) (z : left ≡ suc less) (m : among opened n ≡ false) (w : Went) (t : List ℕ) (said : went_said w t ≡ one_put budget held tape (meaning_of (start_of (shape_said shape) k) []) offset) where
+        module _ (left less : ℕ) (z : left ≡ suc less) (m : among opened n ≡ false) (w : Result Far Reading) (t : List ℕ) (said : went_said w t ≡ one_put budget held tape (meaning_of (start_of (shape_said shape) k) []) offset) where
           inside_is : object_says file l left opened place n ≡ whole_of (λ p m. object_says file l less (opened ++ (n ∷ [])) p m) (meaning_of (start_of (shape_said shape) k) []) n offset (references_of file l n)
           unfolding by_look inside_says
           inside_is = object_is left ∙ rw (is_container, m, z)
 
-          pub object_over : (x : Reading) → w ≡ Over x → went_said (Over x) t ≡ say_onto budget held tape (object_says file l left opened place n)
+          pub object_over : (x : Reading) → w ≡ Err x → went_said (Err x) t ≡ say_onto budget held tape (object_says file l left opened place n)
           unfolding whole_of went_said
           object_over x f =
               sym (ap (say_onto budget held tape) inside_is
-              ∙ followed_over budget held tape _ _ (ending_said x.ending) x.held t (one_said budget held tape _ n offset offset ∙ sym said ∙ ap (λ (y : Went). went_said y t) f))
+              ∙ followed_over budget held tape _ _ (ending_said x.ending) x.held t (one_said budget held tape _ n offset offset ∙ sym said ∙ ap (λ (y : Result Far Reading). went_said y t) f))
 
-          pub object_on : (far : Far) → w ≡ On far → say_onto far.left far.held t (elements_say file l less (opened ++ (n ∷ [])) n offset far.place) ≡ say_onto budget held tape (object_says file l left opened place n)
+          pub object_on : (far : Far) → w ≡ Ok far → say_onto far.left far.held t (elements_say file l less (opened ++ (n ∷ [])) n offset far.place) ≡ say_onto budget held tape (object_says file l left opened place n)
           unfolding whole_of went_said elements_from
           object_on far f =
               sym (ap (say_onto budget held tape) inside_is
-              ∙ followed_on budget held tape _ _ far.place far.left far.held t (one_said budget held tape _ n offset offset ∙ sym said ∙ ap (λ (y : Went). went_said y t) f))
+              ∙ followed_on budget held tape _ _ far.place far.left far.held t (one_said budget held tape _ n offset offset ∙ sym said ∙ ap (λ (y : Result Far Reading). went_said y t) f))

@@ -1,6 +1,7 @@
 -- The whole file: its trailer, then its root.
 use mathlib.Core.List.{List, []}
 use mathlib.Core.Path.{◌≡◌, sym, ap, ◌∙◌}
+use Rattle.std.specs.Prelude.{Result, Ok, Err}
 use Prim.Native.Nat.{ℕ}
 use Rattle.event.specs.Format.{max_open}
 use Rattle.layout.specs.Said.{trailer_said}
@@ -14,18 +15,16 @@ use Rattle.plainly.specs.Said.{ending_said, went_said}
 use Rattle.plainly.specs.Says.{refusal, object_says, trailer_says, file_says}
 use Rattle.plainly.specs.declared.Far.{Far}
 use Rattle.plainly.specs.declared.Reading.{Reading}
-use Rattle.plainly.specs.declared.Went.{Went}
-use Rattle.plainly.specs.declared.Went.TheVariants.{On, Over}
 
 -- what came of the root
-module _ (r : Went) (t : List ℕ) (x : Put) (h : went_said r t ≡ x) where
-  pub root_on : (f : Far) → r ≡ On f → plainly whole f.held t ≡ closing x
+module _ (r : Result Far Reading) (t : List ℕ) (x : Put) (h : went_said r t ≡ x) where
+  pub root_on : (f : Far) → r ≡ Ok f → plainly whole f.held t ≡ closing x
   unfolding went_said closing last_of
-  root_on f e = ap (λ (w : Went). closing (went_said w t)) (sym e) ∙ ap closing h
+  root_on f e = ap (λ (w : Result Far Reading). closing (went_said w t)) (sym e) ∙ ap closing h
 
-  pub root_over : (y : Reading) → r ≡ Over y → plainly (ending_said y.ending) y.held t ≡ closing x
+  pub root_over : (y : Reading) → r ≡ Err y → plainly (ending_said y.ending) y.held t ≡ closing x
   unfolding went_said closing last_of
-  root_over y e = ap (λ (w : Went). closing (went_said w t)) (sym e) ∙ ap closing h
+  root_over y e = ap (λ (w : Result Far Reading). closing (went_said w t)) (sym e) ∙ ap closing h
 
 module _ (budget : ℕ) (file tape : List ℕ) where
   -- a trailer that is refused

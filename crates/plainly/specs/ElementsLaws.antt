@@ -1,7 +1,7 @@
 -- The elements of a container that was entered: what is due in its frame is each of its references in turn, and then its end.
+use Rattle.std.proofs.Math.Option.{none, some}
 use mathlib.Core.List.{List, [], ◌∷◌}
-use Rattle.std.proofs.Math.Option.{some}
-use Rattle.std.specs.Prelude.{◌≡◌, ℕ, zero, suc, ◌+◌, ◌-◌, ◌*◌, ◌^◌, ◌≤◌, ◌<◌, drop}
+use Rattle.std.specs.Prelude.{◌≡◌, ℕ, zero, suc, ◌+◌, ◌-◌, ◌*◌, ◌^◌, ◌≤◌, ◌<◌, drop, None, Option, Some}
 use Rattle.std.proofs.Math.Path.{refl, ap}
 use Rattle.std.proofs.Common.{sym, ◌∙◌, suc-mul, add-mul, add-one, arith, le-leb, length-drop}
 use Rattle.std.proofs.Math.ListN.{length, length-map, get_elem?}
@@ -24,8 +24,6 @@ use Rattle.layout.specs.SaidLaws.{due_said_one}
 use Rattle.layout.specs.declared.frame.Frame.{Frame}
 use Rattle.layout.specs.declared.layout.Due.{Due}
 use Rattle.layout.specs.declared.layout.Due.TheVariants.{Wrong, Close, Member}
-use Rattle.layout.specs.declared.layout.Entry.{Entry}
-use Rattle.layout.specs.declared.layout.Entry.TheVariants.{Of, Outside}
 use Rattle.layout.specs.declared.layout.Layout.{Layout}
 
 -- a container of a length at an offset, that was looked up
@@ -34,10 +32,10 @@ pub record Entered (file : List ℕ) (l : Layout) (n k offset : ℕ) : Type 0 wh
   pub look : look_of file l n ≡ container shape k offset
 
 -- references that all lie within the file
-abbrev AllOf : List Entry → Type 0
+abbrev AllOf : List (Option ℕ) → Type 0
 AllOf [] = Unit {0}
-AllOf (Of n ∷ es) = AllOf es
-AllOf (Outside ∷ es) = ⊥
+AllOf (Some n ∷ es) = AllOf es
+AllOf (None ∷ es) = ⊥
 
 row_all : (file : List ℕ) (w : Width) (at n : ℕ) → at + n * bytes_in w ≤ length file → AllOf (row file w at n)
 unfolding row number_at
@@ -46,13 +44,13 @@ row_all file w at (suc n) h =
     let m : at + (n * bytes_in w + bytes_in w) ≤ length file = rw suc-mul at h in
     rw (le-leb (at + bytes_in w) (length file) (omega arith)) (row_all file w (at + bytes_in w) n (omega arith))
 
-turn_all : (a b : List Entry) → AllOf a → AllOf b → AllOf (in_turn a b)
+turn_all : (a b : List (Option ℕ)) → AllOf a → AllOf b → AllOf (in_turn a b)
 unfolding in_turn
 turn_all [] b h k = k
-turn_all (Of x ∷ a) [] h k = h
-turn_all (Of x ∷ a) (Of y ∷ b) h k = turn_all a b h k
-turn_all (Of x ∷ a) (Outside ∷ b) h k = absurd k
-turn_all (Outside ∷ a) b h k = absurd h
+turn_all (Some x ∷ a) [] h k = h
+turn_all (Some x ∷ a) (Some y ∷ b) h k = turn_all a b h k
+turn_all (Some x ∷ a) (None ∷ b) h k = absurd k
+turn_all (None ∷ a) b h k = absurd h
 
 made_all : (file : List ℕ) (w : Width) (s : Shape) (e : Extent) → e.start + refs_of s e.count * bytes_in w ≤ length file → AllOf (entries_in file w (made s e))
 unfolding made refs_of entries_in
@@ -63,15 +61,15 @@ made_all file w dictionary e h =
     turn_all _ _ (row_all file w e.start e.count (omega (arith, d))) (row_all file w (e.start + e.count * bytes_in w) e.count (omega (arith, d)))
 
 -- so up to their number none is wrong
-none_wrong : (offset : ℕ) (es : List Entry) (p : ℕ) → AllOf es → p ≤ length es → element_of offset es p ≡ Wrong → ⊥
+none_wrong : (offset : ℕ) (es : List (Option ℕ)) (p : ℕ) → AllOf es → p ≤ length es → element_of offset es p ≡ Wrong → ⊥
 unfolding element_of given
 none_wrong offset [] zero a h e = let z : ◌≡◌ {A = ℕ} 0 1 = cc in omega arith
 none_wrong offset [] (suc p) a h e = omega arith
-none_wrong offset (Of n ∷ es) zero a h e = let z : ◌≡◌ {A = ℕ} 0 1 = cc in omega arith
-none_wrong offset (Of n ∷ es) (suc p) a h e = none_wrong offset es p a (omega arith) e
-none_wrong offset (Outside ∷ es) p a h e = a
+none_wrong offset (Some n ∷ es) zero a h e = let z : ◌≡◌ {A = ℕ} 0 1 = cc in omega arith
+none_wrong offset (Some n ∷ es) (suc p) a h e = none_wrong offset es p a (omega arith) e
+none_wrong offset (None ∷ es) p a h e = a
 
-long_made : (s : Shape) (e : Extent) → length_of (made s e) ≡ some e.count
+long_made : (s : Shape) (e : Extent) → length_of (made s e) ≡ Some e.count
 unfolding made length_of
 long_made array e = refl
 long_made dictionary e = refl
@@ -128,8 +126,8 @@ module _ (file : List ℕ) (l : Layout) (n k offset : ℕ) (w : Entered file l n
   never_wrong p h e =
       let st = looked_in file l n w.shape k offset w.look (frame p) refl refl in
       let sa = looked_stands file l n w.shape k offset w.look in
-      let lo : length_of here ≡ some k = ap length_of stands.lies.is ∙ long_made w.shape stands.lies.extent ∙ ap some stands.lies.counts in
-      let es : List Entry = entries_of file l n in
+      let lo : length_of here ≡ Some k = ap length_of stands.lies.is ∙ long_made w.shape stands.lies.extent ∙ ap Some stands.lies.counts in
+      let es : List (Option ℕ) = entries_of file l n in
       let al : AllOf es = rw (sa, stands.lies.is) (made_all file l.refs w.shape stands.lies.extent (rw stands.lies.counts stands.lies.inside)) in
       let ln : length refs ≡ length es = length-map es number_in in
       none_wrong _ es p al (omega (arith, ln)) (sym (due_entry file l (frame p) (rw st lo)) ∙ e)

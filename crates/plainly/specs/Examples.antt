@@ -1,6 +1,5 @@
 -- P10 of docs/FORMAT.md, the array of 1, "a", 1, and P12, an array inside itself: what they say, and onto a tape.
-use Rattle.std.specs.Prelude.{List, [], ◌∷◌, ◌++◌, map, ◌≡◌, refl, ℕ, pos, replicate, take}
-use Rattle.std.proofs.Math.Option.{some}
+use Rattle.std.specs.Prelude.{List, [], ◌∷◌, ◌++◌, map, ◌≡◌, refl, ℕ, pos, replicate, take, Some}
 use Rattle.event.specs.Format.{magic}
 use Rattle.event.specs.Meaning.{Meaning, array, integer, text, close}
 use Rattle.plainly.specs.Computed.{computed}
@@ -25,13 +24,13 @@ said m n offset = record { meaning = m; number = n; offset = offset }
 
 -- every event with its object's number and offset; the object sought last is the last one read
 p10_says : file_says p10 ≡ says (
-    said (array (some 3)) 0 8 ∷ said (integer (pos 1)) 1 12 ∷ said (text (0x61 ∷ [])) 2 14 ∷ said (integer (pos 1)) 1 12 ∷ said close 0 8 ∷ []
+    said (array (Some 3)) 0 8 ∷ said (integer (pos 1)) 1 12 ∷ said (text (0x61 ∷ [])) 2 14 ∷ said (integer (pos 1)) 1 12 ∷ said close 0 8 ∷ []
     ) (done 12)
 unfolding computed
 p10_says = refl
 
 -- it is open: 14 at its offset
-p12_says : file_says p12 ≡ says (said (array (some 1)) 0 8 ∷ []) (refused 14 [] 8)
+p12_says : file_says p12 ≡ says (said (array (Some 1)) 0 8 ∷ []) (refused 14 [] 8)
 unfolding computed
 p12_says = refl
 

@@ -1,11 +1,11 @@
 -- What the answers say in the numbers, values and places of docs/FORMAT.md, N.
-use Rattle.std.specs.Prelude.{List, [], ℕ}
+use Rattle.std.specs.Prelude.{Result, Ok, Err, List, [], ℕ}
 use Rattle.reader.specs.Said.{number_of, values_of}
 use Rattle.plainly.specs.Plain.{Last, whole, stopped, Put, put, going, over}
 use Rattle.plainly.specs.declared.Ending.{Ending}
 use Rattle.plainly.specs.declared.Ending.TheVariants.{Ended, Refused, OverBudget, NoRoomForTape}
-use Rattle.plainly.specs.declared.Went.{Went}
-use Rattle.plainly.specs.declared.Went.TheVariants.{On, Over}
+use Rattle.plainly.specs.declared.Far.{Far}
+use Rattle.plainly.specs.declared.Reading.{Reading}
 
 unfoldable pub ending_said : Ending → Last
 ending_said Ended = whole
@@ -14,6 +14,6 @@ ending_said OverBudget = stopped 37 [] 0
 ending_said (NoRoomForTape place) = stopped 27 [] place
 
 -- how far it came, with the tape
-unfoldable pub went_said : Went → List ℕ → Put
-went_said (On f) tape = put (going f.place f.left) f.held tape
-went_said (Over r) tape = put (over (ending_said r.ending)) r.held tape
+unfoldable pub went_said : Result Far Reading → List ℕ → Put
+went_said (Ok f) tape = put (going f.place f.left) f.held tape
+went_said (Err r) tape = put (over (ending_said r.ending)) r.held tape

@@ -38,19 +38,12 @@ pub struct Reading {
     pub held: usize,
 }
 
-// How far it has come: the offset sought last, how many bytes of the tape are held, how many events the budget has left.
+// How far it has come, unless it is over with a reading: the offset sought last, how many bytes of the tape are held, how many events the budget has left.
 #[derive(Clone, Copy)]
 pub(crate) struct Far {
     pub(crate) place: u64,
     pub(crate) held: usize,
     pub(crate) left: u64,
-}
-
-// It goes on from there, or it is over.
-#[derive(Clone, Copy)]
-pub(crate) enum Went {
-    On(Far),
-    Over(Reading),
 }
 
 // Reads a file, and puts at most so many events on the tape.
@@ -77,11 +70,11 @@ fn read_root(file: &[u8], tape: &mut [u8], budget: u64, layout: Layout, root: u6
         left: budget,
     };
     match read_object(file, layout, tape, &mut opened, 0, root, far) {
-        Went::On(end) => Reading {
+        Ok(end) => Reading {
             ending: Ending::Ended,
             held: end.held,
         },
-        Went::Over(reading) => reading,
+        Err(reading) => reading,
     }
 }
 
@@ -95,42 +88,34 @@ fn read_object(
     depth: usize,
     object: u64,
     far: Far,
-) -> Went
+) -> Result<Far, Reading>
     requires { (length file.now ≤ max_length) × (length opened.old ≡ max_open) × (depth ≤ max_open) }
     ensures tape_after { went_said result tape.new ≡ say_onto far.left far.held tape.old (object_says file.now layout (max_open - depth) (take depth opened.old) far.place object) }
     ensures opened_unchanged { take depth opened.new ≡ take depth opened.old }
 {
     match look_up(file, layout, object, far.place) {
-        Look::Missing => Went::Over(refused(Refusal::WrongFile, 0, far.held)),
-        Look::Refused(refusal, place) => Went::Over(refused(
-            Refusal::File(refusal),
-            place,
-            far.held,
-        )),
+        Look::Missing => Err(refused(Refusal::WrongFile, 0, far.held)),
+        Look::Refused(refusal, place) => Err(refused(Refusal::File(refusal), place, far.held)),
         Look::Scalar(event, span, offset) => put_scalar(file, tape, far, event, span, offset),
         Look::Container(shape, length, offset) => {
             let number = object as u32;
             if is_among(&opened[..depth], number) {
-                return Went::Over(refused(Refusal::RecursiveObject, offset, far.held));
+                return Err(refused(Refusal::RecursiveObject, offset, far.held));
             }
             if MAX_OPEN <= depth {
-                return Went::Over(refused(Refusal::TooDeep, offset, far.held));
+                return Err(refused(Refusal::TooDeep, offset, far.held));
             }
-            match put_event(tape, far, start_of(shape, length), offset) {
-                Went::Over(reading) => Went::Over(reading),
-                Went::On(inside) => {
-                    opened[depth] = number;
-                    let count = length as u32;
-                    let at = offset as u32;
-                    let frame = Frame {
-                        object: number,
-                        position: 0,
-                        length: count,
-                        offset: at,
-                    };
-                    read_elements(file, layout, tape, opened, depth + 1, frame, inside)
-                }
-            }
+            let inside = put_event(tape, far, start_of(shape, length), offset)?;
+            opened[depth] = number;
+            let count = length as u32;
+            let at = offset as u32;
+            let frame = Frame {
+                object: number,
+                position: 0,
+                length: count,
+                offset: at,
+            };
+            read_elements(file, layout, tape, opened, depth + 1, frame, inside)
         }
     }
 }
@@ -145,7 +130,7 @@ fn read_elements(
     depth: usize,
     frame: Frame,
     start: Far,
-) -> Went
+) -> Result<Far, Reading>
     requires { (length file.now ≤ max_length) × (length opened.old ≡ max_open) × (depth ≤ max_open) × Entered file.now layout frame.object frame.length frame.offset }
     ensures tape_after { went_said result tape.new ≡ say_onto start.left start.held tape.old (elements_say file.now layout (max_open - depth) (take depth opened.old) frame.object frame.offset start.place) }
     ensures opened_unchanged { take depth opened.new ≡ take depth opened.old }
@@ -157,32 +142,20 @@ fn read_elements(
     };
     let mut far = start;
     let mut position: u32 = 0;
+    // Kept: what is due at a position says whether the elements are over, so no range counts it.
     loop {
-        let here = Frame {
-            object: frame.object,
-            position,
-            length: frame.length,
-            offset: frame.offset,
-        };
+        let here = Frame { position, ..frame };
         match due_in(file, layout, here, standing) {
             Due::Wrong => {
-                return Went::Over(refused(Refusal::WrongFile, 0, far.held));
+                return Err(refused(Refusal::WrongFile, 0, far.held));
             }
             Due::Close(_) => {
                 return put_event(tape, far, Event::EndCollection, far.place);
             }
-            Due::Member(member) => match read_object(
-                file, layout, tape, opened, depth, member, far,
-            ) {
-                Went::Over(reading) => {
-                    return Went::Over(reading);
-                }
-                Went::On(next) => {
-                    far = next;
-                    position += 1;
-                    continue;
-                }
-            },
+            Due::Member(member) => {
+                far = read_object(file, layout, tape, opened, depth, member, far)?;
+                position += 1;
+            }
         }
     }
 }

@@ -8,7 +8,7 @@ ghost use Rattle.plainly.specs.One.{one_put, count_of, Scalar, scalar_means};
 ghost use Rattle.plainly.specs.Plain.{stopped, put, refused_with};
 ghost use Rattle.plainly.specs.Said.{ending_said, went_said};
 
-use crate::{Ending, Far, Reading, Went};
+use crate::{Ending, Far, Reading};
 use event::Event;
 use layout::lookup::Span;
 use reader::refusal::Refusal;
@@ -28,11 +28,11 @@ pub(crate) fn refused(refusal: Refusal, place: u64, held: usize) -> Reading
 }
 
 // An event that has no bytes, where an offset was sought last.
-pub(crate) fn put_event(tape: &mut [u8], far: Far, event: Event, place: u64) -> Went
+pub(crate) fn put_event(tape: &mut [u8], far: Far, event: Event, place: u64) -> Result<Far, Reading>
     ensures { went_said result tape.new ≡ one_put far.left far.held tape.old (meaning_of event []) place }
 {
     if far.left == 0 {
-        return over_budget(far.held);
+        return Err(over_budget(far.held));
     }
     counted(far, unchecked::append(tape, far.held, event, b""), place)
 }
@@ -45,12 +45,12 @@ pub(crate) fn put_scalar(
     event: Event,
     span: Span,
     offset: u64,
-) -> Went
+) -> Result<Far, Reading>
     requires { Scalar file.now event span }
     ensures { went_said result tape.new ≡ one_put far.left far.held tape.old (scalar_means file.now event span) offset }
 {
     if far.left == 0 {
-        return over_budget(far.held);
+        return Err(over_budget(far.held));
     }
     counted(
         far,
@@ -81,26 +81,27 @@ fn append_scalar(file: &[u8], tape: &mut [u8], held: usize, event: Event, span: 
 }
 
 // The budget is used up, and an event is next.
-fn over_budget(held: usize) -> Went
-    ensures { (t : List ℕ) → went_said result t ≡ put (refused_with 37 [] 0) held t }
+#[tactic(auto, unfolding(crate::specs::Said::went_said, crate::specs::Said::ending_said))]
+fn over_budget(held: usize) -> Reading
+    ensures { (t : List ℕ) → went_said (Err result) t ≡ put (refused_with 37 [] 0) held t }
 {
-    Went::Over(Reading {
+    Reading {
         ending: Ending::OverBudget,
         held,
-    })
+    }
 }
 
 // An event that was appended is counted; one that doesn't fit ends it.
-fn counted(far: Far, appended: Appended, place: u64) -> Went
+fn counted(far: Far, appended: Appended, place: u64) -> Result<Far, Reading>
     requires { 0 < far.left }
     ensures { (t : List ℕ) → went_said result t ≡ count_of far.left far.held t place (said appended) }
 {
     let Appended::Held(held) = appended else {
-        return Went::Over(Reading {
+        return Err(Reading {
             ending: Ending::NoRoomForTape(far.held as u64),
             held: far.held,
         });
     };
     let left = far.left - 1;
-    Went::On(Far { place, held, left })
+    Ok(Far { place, held, left })
 }

@@ -1,6 +1,6 @@
 -- Calls through the promises of `fresh_reader` and `next`: what the code returns, call after call on one file, is what the definition `calls` says.
-use mathlib.Core.List.{List, [], ◌∷◌, map}
 use mathlib.Core.Option.{some}
+use mathlib.Core.List.{List, [], ◌∷◌, map}
 use mathlib.Core.Path.{◌≡◌, refl, sym, ap, ap₂, ◌∙◌}
 use Prim.Native.Nat.{ℕ, zero, suc}
 use native.Mathlib.Omega.{arith}

@@ -1,4 +1,5 @@
 -- The bytes that a record asks for lie within the file, and text of 6x is UTF-16.
+use Rattle.std.specs.Prelude.{Some}
 use Prim.Native.Nat.{ℕ, ◌+◌, ◌≤◌}
 use mathlib.Core.Bool.{Bool, true, false}
 use mathlib.Core.List.{List}
@@ -11,7 +12,6 @@ use Rattle.utf.specs.Unicode.{is_utf16}
 use Rattle.event.specs.declared.Event.{Event}
 use Rattle.event.specs.declared.Event.TheVariants as event
 use Rattle.event.specs.Same.{same}
-use Rattle.event.specs.declared.Length.TheVariants.{Given}
 use Rattle.number.specs.Part.{part}
 use Rattle.object.specs.Object.{Found, object_at}
 use Rattle.object.specs.Object as found
@@ -78,8 +78,8 @@ start_asked_law file e (found.scalar f) = tt
 start_asked_law file e (found.bytes start n) = tt
 start_asked_law file e (found.utf8 start n) = tt
 start_asked_law file e (found.utf16 start n) = tt
-start_asked_law file e (found.array n) = given_asked file (same e (event.StartArray (Given n)))
-start_asked_law file e (found.dictionary n) = given_asked file (same e (event.StartDictionary (Given n)))
+start_asked_law file e (found.array n) = given_asked file (same e (event.StartArray (Some n)))
+start_asked_law file e (found.dictionary n) = given_asked file (same e (event.StartDictionary (Some n)))
 
 end_asked_law : (file : List ℕ) (x : Found) → AskedIn file (end_asked x)
 unfolding end_asked

@@ -1,4 +1,5 @@
 -- The text of a 6x: what changing it and measuring it tell.
+use Rattle.std.specs.Prelude.{None, Option, Some}
 use Prim.Native.Nat.{ℕ, ◌+◌, ◌-◌, ◌≤◌, ◌<◌}
 use mathlib.Core.Bool.{Bool, true, false}
 use mathlib.Core.List.{List, []}
@@ -12,8 +13,6 @@ use Rattle.utf.specs.Unicode.{is_utf16, to_utf8}
 use Rattle.utf.specs.Utf16.{utf8_length_of}
 use Rattle.utf.specs.declared.changed.Changed.{Changed}
 use Rattle.utf.specs.declared.changed.Changed.TheVariants.{Written, NotText, NoRoom}
-use Rattle.utf.specs.declared.utf16.Utf8Length.{Utf8Length}
-use Rattle.utf.specs.declared.utf16.Utf8Length.TheVariants.{Bytes, NotUtf16}
 use Rattle.number.specs.Part.{part}
 use Rattle.layout.specs.Bytes.{in_utf16}
 use Rattle.reader.specs.Request.{long, refusing, length_said, scratch_after, part_said}
@@ -71,24 +70,24 @@ module _ (f scratch : List ℕ) (s n : ℕ) where
         go true t = rw (t, lt-leb _ _ (ltb-true _ _ t))
         go false t = rw (t, le-leb _ _ (ltb-false _ _ t))
 
-    module _ (x : Utf8Length) (measured : x ≡ utf8_length_of (take (s + n - s) (drop s f))) where
-      length_is : x ≡ Bytes (length (to_utf8 (part f s n)))
+    module _ (x : Option ℕ) (measured : x ≡ utf8_length_of (take (s + n - s) (drop s f))) where
+      length_is : x ≡ Some (length (to_utf8 (part f s n)))
       unfolding utf8_length_of
       length_is = measured ∙ rw (lent, ok)
 
-      pub is_measured : x ≡ NotUtf16 → ⊥
-      is_measured e = let z : NotUtf16 ≡ Bytes (length (to_utf8 (part f s n))) = sym e ∙ length_is in let q : ◌≡◌ {A = ℕ} 0 1 = cc in omega arith
+      pub is_measured : x ≡ None → ⊥
+      is_measured e = let z : None ≡ Some (length (to_utf8 (part f s n))) = sym e ∙ length_is in let q : ◌≡◌ {A = ℕ} 0 1 = cc in omega arith
 
-      pub part_none : (k : ℕ) → x ≡ Bytes k → length scratch < k → part_said f scratch (in_utf16 s n) ≡ []
+      pub part_none : (k : ℕ) → x ≡ Some k → length scratch < k → part_said f scratch (in_utf16 s n) ≡ []
       unfolding part_said
       part_none k e h =
-          let z : Bytes k ≡ Bytes (length (to_utf8 (part f s n))) = sym e ∙ length_is in
+          let z : Some k ≡ Some (length (to_utf8 (part f s n))) = sym e ∙ length_is in
           let q : length (to_utf8 (part f s n)) ≡ k = cc in
           rw (lt-leb _ _ (let g : length scratch < length (to_utf8 (part f s n)) = omega arith in g))
 
-      pub part_some : (k : ℕ) → x ≡ Bytes k → k ≤ length scratch → part_said f scratch (in_utf16 s n) ≡ take k scratch
+      pub part_some : (k : ℕ) → x ≡ Some k → k ≤ length scratch → part_said f scratch (in_utf16 s n) ≡ take k scratch
       unfolding part_said
       part_some k e h =
-          let z : Bytes k ≡ Bytes (length (to_utf8 (part f s n))) = sym e ∙ length_is in
+          let z : Some k ≡ Some (length (to_utf8 (part f s n))) = sym e ∙ length_is in
           let q : length (to_utf8 (part f s n)) ≡ k = cc in
           rw (le-leb _ _ (let g : length (to_utf8 (part f s n)) ≤ length scratch = omega arith in g)) (ap (λ (i : ℕ). take i scratch) q)

@@ -1,6 +1,6 @@
 -- Laws of call after call: how many, the n-th of them, one more, and calls behind calls.
-use mathlib.Core.List.{List, [], ◌∷◌, ◌++◌, map-append}
 use Rattle.std.proofs.Math.Option.{some}
+use mathlib.Core.List.{List, [], ◌∷◌, ◌++◌, map-append}
 use Rattle.std.specs.Prelude.{◌≡◌, length}
 use Rattle.std.proofs.Math.Path.{refl, ap}
 use Prim.Native.Nat.{ℕ, zero, suc, ◌+◌, ◌<◌}

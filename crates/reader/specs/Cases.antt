@@ -1,6 +1,5 @@
 -- The cases of reading of docs/FORMAT.md, P, in one table: what the first three calls on each file answer.
-use Rattle.std.specs.Prelude.{List, [], ◌∷◌, ◌++◌, map, ◌≡◌, refl, ℕ, ◌+◌, pos, negsuc, length, replicate}
-use Rattle.std.proofs.Math.Option.{some}
+use Rattle.std.specs.Prelude.{List, [], ◌∷◌, ◌++◌, map, ◌≡◌, refl, ℕ, ◌+◌, pos, negsuc, length, replicate, Some}
 use Rattle.event.specs.Format.{magic}
 use Rattle.event.specs.Meaning.{array, date, integer, bytes, text}
 use Rattle.reader.specs.Computed.{computed}
@@ -37,7 +36,7 @@ cases =
     record { file = one (0x4F ∷ 0x14 ∷ 0x02 ∷ 0xAB ∷ 0xCD ∷ []); answer = refused 31 [] 8 ∷ ended ∷ ended ∷ [] } ∷
     record { file = one (0x61 ∷ 0xD8 ∷ 0x00 ∷ []); answer = refused 13 [] 8 ∷ ended ∷ ended ∷ [] } ∷
     record { file = in_header 0; answer = means (text (0xE7 ∷ 0x81 ∷ 0xAC ∷ 0xE6 ∷ 0xA5 ∷ 0xB3 ∷ [])) 0 ∷ ended ∷ ended ∷ [] } ∷
-    record { file = one (0xA1 ∷ 0x00 ∷ []); answer = means (array (some 1)) 8 ∷ refused 14 [] 8 ∷ ended ∷ [] } ∷
+    record { file = one (0xA1 ∷ 0x00 ∷ []); answer = means (array (Some 1)) 8 ∷ refused 14 [] 8 ∷ ended ∷ [] } ∷
     record { file = one (0x33 ∷ 0x7F ∷ 0xEF ∷ replicate 6 0xFF); answer = means (date 0x7FEF_FFFF_FFFF_FFFF) 8 ∷ ended ∷ ended ∷ [] } ∷
     record { file = one (0x33 ∷ 0x7F ∷ 0xF0 ∷ replicate 6 0); answer = refused 34 [] 8 ∷ ended ∷ ended ∷ [] } ∷
     []

@@ -1,8 +1,6 @@
 -- One call of a reader, on any file and any state. docs/FORMAT.md, rules R6, R7 and R18 to R24.
-use Rattle.std.specs.Prelude.{false, cond, not, ◌&&◌, List, [], ℕ, ltb, eqb, length, replicate}
+use Rattle.std.specs.Prelude.{false, cond, not, ◌&&◌, List, [], ℕ, ltb, eqb, length, replicate, None, Option, Some}
 use Rattle.number.specs.Width.{bytes_in, width_of}
-use Rattle.number.specs.declared.width.Size.{Size}
-use Rattle.number.specs.declared.width.Size.TheVariants.{Allowed, NotAllowed}
 use Rattle.number.specs.declared.width.Width.{Width}
 use Rattle.layout.specs.Layout.{look_of, source_of}
 use Rattle.layout.specs.Frame.{no_frame}
@@ -27,13 +25,13 @@ begin file r (ends number values place) = refuse number values place
 begin file r (lays l root) = arrive (laid_out file l) root (look_of file l root)
 
 -- any other call, where the sizes are allowed ones
-unfoldable pub with_refs : List ℕ → Reader → Width → Size → Step
-with_refs file r offsets (Allowed refs) = step_of (source_of file (record { offsets = offsets; refs = refs; count = r.count; table = r.table })) r
-with_refs file r offsets NotAllowed = wrong_file r
+unfoldable pub with_refs : List ℕ → Reader → Width → Option Width → Step
+with_refs file r offsets (Some refs) = step_of (source_of file (record { offsets = offsets; refs = refs; count = r.count; table = r.table })) r
+with_refs file r offsets None = wrong_file r
 
-unfoldable pub go_on : List ℕ → Reader → Size → Size → Step
-go_on file r (Allowed offsets) refs = with_refs file r offsets refs
-go_on file r NotAllowed refs = wrong_file r
+unfoldable pub go_on : List ℕ → Reader → Option Width → Option Width → Step
+go_on file r (Some offsets) refs = with_refs file r offsets refs
+go_on file r None refs = wrong_file r
 
 -- the order of R21
 unfoldable pub next_of : List ℕ → Reader → Step

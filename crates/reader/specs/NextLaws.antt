@@ -1,5 +1,5 @@
 -- What a call answers, case by case: the order of R21 (docs/FORMAT.md).
-use Rattle.std.specs.Prelude.{Bool, ◌&&◌, ℕ, ◌≤◌, ◌<◌, ltb, length}
+use Rattle.std.specs.Prelude.{Bool, ◌&&◌, ℕ, ◌≤◌, ◌<◌, ltb, length, Some}
 use Rattle.std.proofs.Math.Bool.{true, false, cond, not}
 use mathlib.Core.List.{List, []}
 use Rattle.std.proofs.Math.Path.{◌≡◌, refl}
@@ -8,7 +8,6 @@ use borrow.Author.Tests.{lt-ltb, le-ltb, eq-eqb, ne_eqb}
 use Rattle.std.proofs.Math.Dec.{eqb}
 use Rattle.number.specs.Among.{among, among_not}
 use Rattle.number.specs.Width.{width_of}
-use Rattle.number.specs.declared.width.Size.TheVariants.{Allowed}
 use Rattle.layout.specs.Layout.{due_of, source_of}
 use Rattle.layout.specs.LookLaws.{LookedRight}
 use Rattle.layout.specs.Looked.{Looked, barred, missing, faulty, scalar, container, with_place}
@@ -94,6 +93,6 @@ module _ (file : List ℕ) (r : Reader) where
       next_on e h = no _ _ open_not_ended ∙ no _ _ (le-ltb _ _ short) ∙ no _ _ old ∙ no _ _ (ap not (eq-eqb _ _ e)) ∙ no _ _ (le-ltb _ _ h)
 
       -- and what is due in the innermost container decides
-      pub next_due : r.length ≡ length file → r.depth ≤ max_open → (l : Layout) → width_of r.offsets ≡ Allowed l.offsets → width_of r.refs ≡ Allowed l.refs → r.count ≡ l.count → r.table ≡ l.table → next_of file r ≡ follow (source_of file l) r (due_of file l (innermost r))
+      pub next_due : r.length ≡ length file → r.depth ≤ max_open → (l : Layout) → width_of r.offsets ≡ Some l.offsets → width_of r.refs ≡ Some l.refs → r.count ≡ l.count → r.table ≡ l.table → next_of file r ≡ follow (source_of file l) r (due_of file l (innermost r))
       unfolding go_on with_refs step_of source_of
       next_due e h l o w n t = next_on e h ∙ rw (o, w, n, t)

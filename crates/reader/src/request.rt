@@ -9,13 +9,13 @@ ghost use Rattle.object.specs.Found.{found_of};
 use crate::answer::Record;
 use crate::refusal::Refusal;
 use crate::state::Reader;
+use event::Event;
 use event::same::is_same;
-use event::{Event, Length};
 use layout::layout::{Layout, is_listed};
 use layout::trailer::{TrailerRead, trailer_of};
 use object::read::{Object, Part, object_at};
 use utf::changed::Changed;
-use utf::utf16::{Utf8Length, utf8_length, utf16_to_utf8};
+use utf::utf16::{utf8_length, utf16_to_utf8};
 
 // How many bytes a record's data or text has, 0 for any other record; a refusal comes with its place.
 #[derive(Clone, Copy)]
@@ -68,7 +68,7 @@ pub fn text_part<'a>(file: &'a [u8], scratch: &'a [u8], handed: Record) -> &'a [
         Asked::InUtf16(part) => {
             let start = part.start;
             let end = start + part.length;
-            let Utf8Length::Bytes(bytes) = utf8_length(&file[start..end]) else {
+            let Some(bytes) = utf8_length(&file[start..end]) else {
                 return &scratch[..0];
             };
             if scratch.len() < bytes {
@@ -82,6 +82,7 @@ pub fn text_part<'a>(file: &'a [u8], scratch: &'a [u8], handed: Record) -> &'a [
 }
 
 // What the file gives of a record: 1 first, then 17.
+#[tactic(auto, unfolding(crate::proofs::Rules::requests, crate::specs::Request::asked_of, crate::specs::Request::asked_by))]
 fn asked_for(file: &[u8], handed: Record) -> Asked
     ensures { asked_said result ≡ asked_of file.now handed }
 {
@@ -95,6 +96,7 @@ fn asked_for(file: &[u8], handed: Record) -> Asked
 }
 
 // The same once the trailer is read: the table has the record's offset under its number, and reading there gives the record.
+#[tactic(auto, unfolding(crate::proofs::Rules::requests, crate::specs::Request::asked_under))]
 fn asked_under(file: &[u8], layout: Layout, handed: Record) -> Asked
     ensures { asked_said result ≡ asked_under file.now handed layout }
 {
@@ -107,6 +109,7 @@ fn asked_under(file: &[u8], layout: Layout, handed: Record) -> Asked
 }
 
 // An event's record, by what is read at its offset.
+#[tactic(auto, unfolding(layout::specs::Bytes::found_asked))]
 fn asked_as(event: Event, object: Object) -> Asked
     ensures { asked_said result ≡ found_asked event (found_of object) }
 {
@@ -125,6 +128,7 @@ fn asked_as(event: Event, object: Object) -> Asked
     }
 }
 
+#[tactic(auto, unfolding(crate::proofs::Rules::requests, layout::specs::Bytes::data_asked))]
 fn data_in(object: Object) -> Asked
     ensures { asked_said result ≡ data_asked (found_of object) }
 {
@@ -134,6 +138,7 @@ fn data_in(object: Object) -> Asked
     }
 }
 
+#[tactic(auto, unfolding(crate::proofs::Rules::requests, layout::specs::Bytes::text_asked))]
 fn text_in(object: Object) -> Asked
     ensures { asked_said result ≡ text_asked (found_of object) }
 {
@@ -145,6 +150,7 @@ fn text_in(object: Object) -> Asked
 }
 
 // A scalar without bytes: it is that event.
+#[tactic(auto, unfolding(crate::proofs::Rules::requests, layout::specs::Bytes::scalar_asked))]
 fn scalar_in(object: Object, event: Event) -> Asked
     ensures { asked_said result ≡ scalar_asked event (found_of object) }
 {
@@ -155,21 +161,21 @@ fn scalar_in(object: Object, event: Event) -> Asked
 }
 
 // A container's start: it has that kind and length.
+#[tactic(auto, unfolding(crate::proofs::Rules::requests, layout::specs::Bytes::start_asked))]
 fn start_in(object: Object, event: Event) -> Asked
     ensures { asked_said result ≡ start_asked event (found_of object) }
 {
     match object {
-        Object::Array(length) => {
-            given_if(is_same(event, Event::StartArray(Length::Given(length))))
-        }
+        Object::Array(length) => { given_if(is_same(event, Event::StartArray(Some(length)))) }
         Object::Dictionary(length) => {
-            given_if(is_same(event, Event::StartDictionary(Length::Given(length))))
+            given_if(is_same(event, Event::StartDictionary(Some(length))))
         }
         _ => Asked::Denied(Refusal::WrongFile),
     }
 }
 
 // A container's end: there is one.
+#[tactic(auto, unfolding(crate::proofs::Rules::requests, layout::specs::Bytes::end_asked))]
 fn end_in(object: Object) -> Asked
     ensures { asked_said result ≡ end_asked (found_of object) }
 {
@@ -180,6 +186,7 @@ fn end_in(object: Object) -> Asked
     }
 }
 
+#[tactic(auto, unfolding(crate::proofs::Rules::requests))]
 fn given_if(given: bool) -> Asked
     ensures { asked_said result ≡ given_if given }
 {

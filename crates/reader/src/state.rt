@@ -39,14 +39,7 @@ impl Reader {
     // The state after the last close, after a root that is a scalar, and after every refusal that ends.
     pub const ENDED: Reader = Reader {
         fresh: false,
-        length: 0,
-        offsets: 0,
-        refs: 0,
-        count: 0,
-        table: 0,
-        place: 0,
-        depth: 0,
-        frames: [Frame::NONE; Reader::MAX_OPEN],
+        ..Reader::FRESH
     };
 
     // The constants are what the definitions say.
@@ -79,15 +72,8 @@ impl Reader {
 pub fn is_open(frames: [Frame; Reader::MAX_OPEN], depth: usize, object: u32) -> bool
     ensures { result ≡ member_of (take depth frames) object }
 {
-    let mut i = 0;
-    while i < Reader::MAX_OPEN {
-        if depth <= i {
-            return false;
-        }
-        if frames[i].object == object {
-            return true;
-        }
-        i += 1;
-    }
-    false
+    frames
+        .iter()
+        .take(depth)
+        .any(|frame| frame.object == object)
 }

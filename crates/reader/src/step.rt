@@ -16,9 +16,10 @@ use layout::layout::{Due, Layout, due_at};
 use layout::lookup::{Look, look_up, start_of};
 use layout::refusal::Refusal as FileRefusal;
 use layout::trailer::{TrailerRead, trailer_of};
-use number::width::{Size, bytes_in, width_of};
+use number::width::{bytes_in, width_of};
 
 // A refusal that ends the reader.
+#[tactic(auto, unfolding(crate::proofs::Rules::answers))]
 fn ended(refusal: Refusal, place: u64) -> Stepped
     ensures { step_said result ≡ refuse (number_of refusal) (values_of refusal) place }
 {
@@ -29,6 +30,7 @@ fn ended(refusal: Refusal, place: u64) -> Stepped
 }
 
 // An event that is handed out.
+#[tactic(auto, unfolding(crate::proofs::Rules::answers))]
 fn handed(event: Event, number: u32, offset: u64) -> Answer
     ensures { said result ≡ event_at event (origin number offset) }
 {
@@ -64,10 +66,10 @@ impl Reader {
         if Reader::MAX_OPEN < depth {
             return self.kept(Refusal::WrongFile, 0);
         }
-        let Size::Allowed(offsets) = width_of(self.offsets) else {
+        let Some(offsets) = width_of(self.offsets) else {
             return self.kept(Refusal::WrongFile, 0);
         };
-        let Size::Allowed(refs) = width_of(self.refs) else {
+        let Some(refs) = width_of(self.refs) else {
             return self.kept(Refusal::WrongFile, 0);
         };
         let layout = Layout {
@@ -104,7 +106,7 @@ impl Reader {
                     return ended(Refusal::File(refusal), place);
                 }
                 Look::Scalar(event, _, offset) => {
-                    self.frames[top].position = self.frames[top].position + 1;
+                    self.frames[top].position += 1;
                     self.place = offset;
                     return Stepped {
                         reader: self,
@@ -119,7 +121,7 @@ impl Reader {
                     if Reader::MAX_OPEN <= depth {
                         return ended(Refusal::TooDeep, offset);
                     }
-                    self.frames[top].position = self.frames[top].position + 1;
+                    self.frames[top].position += 1;
                     self.frames[depth] = Frame {
                         object: number,
                         position: 0,
@@ -138,6 +140,7 @@ impl Reader {
     }
 
     // A refusal that leaves the state as it is.
+    #[tactic(auto, unfolding(crate::proofs::Rules::answers))]
     fn kept(self, refusal: Refusal, place: u64) -> Stepped
         ensures { step_said result ≡ step self (refused (number_of refusal) (values_of refusal) place) }
     {
@@ -148,6 +151,7 @@ impl Reader {
     }
 
     // The first call: the trailer, then the root.
+    #[tactic(auto, using(layout::proofs::Short::laid_short), unfolding(crate::proofs::Rules::answers, crate::specs::Next::begin))]
     fn begin(self, file: &[u8]) -> Stepped
         ensures { step_said result ≡ begin_said file.now self (trailer_in file.now) }
     {
@@ -190,6 +194,7 @@ fn at_root(file: &[u8], layout: Layout, root: u64) -> Stepped
 }
 
 // A reader that has read a trailer and opened nothing.
+#[tactic(auto, using(number::specs::WidthLaws::bytes_in_le), unfolding(crate::specs::Next::laid_out))]
 fn laid_out(file: &[u8], layout: Layout) -> Reader
     requires { length file.now ≤ max_length }
     ensures { result ≡ laid_out file.now layout }

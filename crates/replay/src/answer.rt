@@ -3,7 +3,6 @@
 use crate::by_tape::say_plainly;
 use crate::forged::forged;
 use hexlines::hex::decode;
-use hexlines::line::next;
 use hexlines::stream::{fill, keep};
 use line::put::Fixed;
 use reader::answer::Answer;
@@ -33,24 +32,21 @@ pub fn all<R: Read, W: Write>(from: &mut R, to: &mut W, buffer: &mut [u8]) -> io
 
 // What is left when the input has ended: a line without its newline, if anything.
 fn last<W: Write>(to: &mut W, s: &[u8]) -> io::Result<()> {
-    if 0 < s.len() {
-        one(to, s)?;
+    if s.is_empty() {
+        return Ok(());
     }
-    Ok(())
+    one(to, s)
 }
 
 // Every line that ends here, and where the next begins.
 fn whole_lines<W: Write>(to: &mut W, s: &[u8]) -> io::Result<usize> {
-    let mut at: usize = 0;
-    while at < s.len() {
-        let end = next(s, at, b'\n');
-        if end == s.len() {
-            return Ok(at);
-        }
-        one(to, &s[at..end])?;
-        at = end + 1;
+    let Some(end) = s.iter().rposition(|b| *b == b'\n') else {
+        return Ok(0);
+    };
+    for line in s[..end].split(|b| *b == b'\n') {
+        one(to, line)?;
     }
-    Ok(at)
+    Ok(end + 1)
 }
 
 // A file in hex; or behind a P, to be read plainly; or a forged line, which begins with another capital. UTF-16 text of a file of 65,536 bytes has at
@@ -62,14 +58,14 @@ fn one<W: Write>(to: &mut W, digits: &[u8]) -> io::Result<()> {
     if 131072 < digits.len() {
         return to.write_all(b"long\n");
     }
-    if is_plain(digits) {
-        return say_plainly(to, digits, &mut file, &mut scratch, &mut out);
+    match digits {
+        [b'P', ..] => say_plainly(to, digits, &mut file, &mut scratch, &mut out),
+        [b'A'..=b'Z', ..] => forged(to, digits, &mut file, &mut scratch, &mut out),
+        _ => {
+            let n = decode(digits, &mut file);
+            block(to, &file[..n], &mut scratch, &mut out)
+        }
     }
-    if is_capital(digits) {
-        return forged(to, digits, &mut file, &mut scratch, &mut out);
-    }
-    let n = decode(digits, &mut file);
-    block(to, &file[..n], &mut scratch, &mut out)
 }
 
 fn block<W: Write>(to: &mut W, file: &[u8], scratch: &mut [u8], out: &mut [u8]) -> io::Result<()> {
@@ -77,11 +73,9 @@ fn block<W: Write>(to: &mut W, file: &[u8], scratch: &mut [u8], out: &mut [u8]) 
     let mut reader = Reader::FRESH;
     for _ in 0..EVENTS {
         let stepped = reader.next(file);
-        let after = stepped.reader;
-        reader = after;
-        let answer = stepped.answer;
-        let Answer::Handed(handed) = answer else {
-            say_answer(to, file, scratch, out, answer)?;
+        reader = stepped.reader;
+        let Answer::Handed(handed) = stepped.answer else {
+            say_answer(to, file, scratch, out, stepped.answer)?;
             return then(to, file, scratch, out, reader);
         };
         say_event(to, file, scratch, out, handed)?;
@@ -98,26 +92,9 @@ fn then<W: Write>(
     reader: Reader,
 ) -> io::Result<()> {
     let stepped = reader.next(file);
-    let answer = stepped.answer;
     to.write_all(b"then ")?;
-    say_answer(to, file, scratch, out, answer)?;
-    let after = stepped.reader;
-    let again = after.next(file);
-    let answer = again.answer;
+    say_answer(to, file, scratch, out, stepped.answer)?;
+    let again = stepped.reader.next(file);
     to.write_all(b"then ")?;
-    say_answer(to, file, scratch, out, answer)
-}
-
-fn is_plain(line: &[u8]) -> bool {
-    if line.len() == 0 {
-        return false;
-    }
-    line[0] == b'P'
-}
-
-fn is_capital(line: &[u8]) -> bool {
-    if line.len() == 0 {
-        return false;
-    }
-    line[0] < b'a' && b'9' < line[0]
+    say_answer(to, file, scratch, out, again.answer)
 }

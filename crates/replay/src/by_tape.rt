@@ -1,13 +1,12 @@
 // A file read plainly: the lines of the events on its tape, and how it ends.
 use hexlines::hex::decode;
-use line::piece::Mark;
 use line::put::{Fixed, put_event};
 use plainly::{Ending, read_plainly};
 use reader::refusal::number_of;
 use say::{say_fixed, say_put, say_refusal};
 use std::io;
 use std::io::Write;
-use tape::item::{Item, Step};
+use tape::item::Item;
 use tape::step::step;
 
 // After so many events a block ends `stopped`.
@@ -28,8 +27,7 @@ pub(crate) fn say_plainly<W: Write>(
     let reading = read_plainly(&file[..n], tape, EVENTS);
     say_fixed(to, out, Fixed::Events)?;
     say_tape(to, tape, reading.held, out)?;
-    let ending = reading.ending;
-    say_ending(to, out, ending)
+    say_ending(to, out, reading.ending)
 }
 
 fn say_tape<W: Write>(to: &mut W, tape: &[u8], held: usize, out: &mut [u8]) -> io::Result<()> {
@@ -38,31 +36,23 @@ fn say_tape<W: Write>(to: &mut W, tape: &[u8], held: usize, out: &mut [u8]) -> i
         if held <= at {
             return Ok(());
         }
-        match step(tape, at) {
-            Step::Bad => {
-                return Ok(());
-            }
-            Step::Item(item) => {
-                say_item(to, tape, item, out)?;
-                at = item.next;
-            }
-        }
+        let Some(item) = step(tape, at) else {
+            return Ok(());
+        };
+        say_item(to, tape, item, out)?;
+        at = item.next;
     }
     Ok(())
 }
 
 fn say_item<W: Write>(to: &mut W, tape: &[u8], item: Item, out: &mut [u8]) -> io::Result<()> {
-    let start = item.start;
-    let length = item.length;
-    if tape.len() < start {
+    let Some(behind) = tape.get(item.start..) else {
         return Ok(());
-    }
-    if tape.len() - start < length {
+    };
+    let Some(bytes) = behind.get(..item.length) else {
         return Ok(());
-    }
-    let end = start + length;
-    let event = item.event;
-    let put = put_event(out, 0, event, &tape[start..end], Mark::Nothing);
+    };
+    let put = put_event(out, 0, item.event, bytes, None);
     say_put(to, out, put)
 }
 

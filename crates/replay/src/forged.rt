@@ -1,13 +1,11 @@
 // States and records that no reader gave: one call on each, and all that it answers and leaves. compare/README.md has the format.
 ghost use Rattle.std.specs.Prelude.{◌≤◌, length};
-ghost use Rattle.event.specs.Format.{max_open};
 
 use event::real::real_of;
-use event::{Event, Integer, Length};
-use hexlines::hex::{decode, least};
+use event::{Event, Integer};
+use hexlines::hex::decode;
 use hexlines::line::{next, number};
 use layout::frame::Frame;
-use line::piece::Mark;
 use line::put::put_event;
 use number::signed::signed_of;
 use reader::answer::{Answer, Record};
@@ -30,18 +28,11 @@ pub fn forged<W: Write>(
     let end = next(line, start, b' ');
     let n = decode(&line[start..end], file);
     let rest = after(line, end);
-    if is_state(line) {
+    if matches!(line, [b'S', ..]) {
         say_step(to, &file[..n], scratch, out, state_of(line, rest))
     } else {
         say_request(to, &file[..n], scratch, out, line, rest)
     }
-}
-
-fn is_state(line: &[u8]) -> bool {
-    if line.len() == 0 {
-        return false;
-    }
-    line[0] == b'S'
 }
 
 // The place after the next separator: a space, a comma or a colon.
@@ -49,8 +40,7 @@ fn after(s: &[u8], from: usize) -> usize
     ensures { result ≤ length s.now }
 {
     for i in from..s.len() {
-        let b = s[i];
-        if b == b' ' || b == b',' || b == b':' {
+        if matches!(s[i], b' ' | b',' | b':') {
             return i + 1;
         }
     }
@@ -110,68 +100,36 @@ fn say_step<W: Write>(
     reader: Reader,
 ) -> io::Result<()> {
     let stepped = reader.next(file);
-    let answer = stepped.answer;
-    say_origin(to, answer)?;
-    say_answer(to, file, scratch, out, answer)?;
-    let after = stepped.reader;
-    say_state(to, after)
+    say_origin(to, stepped.answer)?;
+    say_answer(to, file, scratch, out, stepped.answer)?;
+    say_state(to, stepped.reader)
 }
 
 fn say_origin<W: Write>(to: &mut W, answer: Answer) -> io::Result<()> {
     let Answer::Handed(handed) = answer else {
         return Ok(());
     };
-    to.write_all(b"at ")?;
-    say_number(to, handed.number as u64, b" ")?;
-    say_number(to, handed.offset, b" ")
-}
-
-fn say_number<W: Write>(to: &mut W, n: u64, behind: &[u8]) -> io::Result<()> {
-    write!(to, "{n}")?;
-    to.write_all(behind)
+    write!(to, "at {} {} ", handed.number, handed.offset)
 }
 
 fn say_state<W: Write>(to: &mut W, reader: Reader) -> io::Result<()> {
-    to.write_all(b"state ")?;
-    if reader.fresh {
-        say_number(to, 1, b" ")?;
-    } else {
-        say_number(to, 0, b" ")?;
-    }
-    say_number(to, reader.length as u64, b" ")?;
-    say_number(to, reader.offsets as u64, b" ")?;
-    say_number(to, reader.refs as u64, b" ")?;
-    say_number(to, reader.count as u64, b" ")?;
-    say_number(to, reader.table as u64, b" ")?;
-    say_number(to, reader.place, b" ")?;
-    say_number(to, reader.depth as u64, b" ")?;
+    write!(to, "state {} {} ", u8::from(reader.fresh), reader.length)?;
+    write!(to, "{} {} {} ", reader.offsets, reader.refs, reader.count)?;
+    write!(to, "{} {} {} ", reader.table, reader.place, reader.depth)?;
     say_frames(to, reader)?;
     to.write_all(b"\n")
 }
 
 // The frames that are not all zero, and those before them.
 fn say_frames<W: Write>(to: &mut W, reader: Reader) -> io::Result<()> {
-    let shown = shown_frames(reader);
-    for i in 0..shown {
-        let frame = reader.frames[i];
-        say_number(to, frame.object as u64, b":")?;
-        say_number(to, frame.position as u64, b":")?;
-        say_number(to, frame.length as u64, b":")?;
-        say_number(to, frame.offset as u64, b",")?;
+    let Some(last) = reader.frames.iter().rposition(|frame| !is_zero(*frame)) else {
+        return Ok(());
+    };
+    for frame in &reader.frames[..last + 1] {
+        write!(to, "{}:{}:", frame.object, frame.position)?;
+        write!(to, "{}:{},", frame.length, frame.offset)?;
     }
     Ok(())
-}
-
-fn shown_frames(reader: Reader) -> usize
-    ensures { result ≤ max_open }
-{
-    let mut shown: usize = 0;
-    for i in 0..Reader::MAX_OPEN {
-        if !is_zero(reader.frames[i]) {
-            shown = i + 1;
-        }
-    }
-    shown
 }
 
 fn is_zero(frame: Frame) -> bool {
@@ -196,8 +154,8 @@ fn say_request<W: Write>(
         number: word(s, object),
         offset: number(s, offset),
     };
-    blank(scratch);
-    let room = least(number(s, length) as usize, scratch.len());
+    scratch.fill(0xaa);
+    let room = scratch.len().min(number(s, length) as usize);
     ask(to, file, &mut scratch[..room], out, handed)
 }
 
@@ -216,10 +174,7 @@ fn ask<W: Write>(
 
 fn say_length<W: Write>(to: &mut W, out: &mut [u8], length: TextLength) -> io::Result<()> {
     match length {
-        TextLength::Length(n) => {
-            to.write_all(b"length ")?;
-            say_number(to, n, b"\n")
-        }
+        TextLength::Length(n) => write!(to, "length {n}\n"),
         TextLength::Refused(refusal, place) => {
             say_refusal(to, out, number_of(refusal) as u64, place)
         }
@@ -227,14 +182,8 @@ fn say_length<W: Write>(to: &mut W, out: &mut [u8], length: TextLength) -> io::R
 }
 
 fn say_bytes<W: Write>(to: &mut W, out: &mut [u8], bytes: &[u8]) -> io::Result<()> {
-    let put = put_event(out, 0, Event::Data, bytes, Mark::Nothing);
+    let put = put_event(out, 0, Event::Data, bytes, None);
     say_put(to, out, put)
-}
-
-fn blank(scratch: &mut [u8]) {
-    for byte in scratch.iter_mut() {
-        *byte = 0xaa;
-    }
 }
 
 // The tape's kinds, but that 4 is an integer by its 64 bits; any other number is a NaN by its bits.
@@ -249,10 +198,10 @@ fn event_of(kind: u64, value: u64) -> Event {
         7 => Event::Uid(value),
         8 => Event::Data,
         9 => Event::String,
-        10 => Event::StartArray(Length::NotGiven),
-        11 => Event::StartArray(Length::Given(value)),
-        12 => Event::StartDictionary(Length::NotGiven),
-        13 => Event::StartDictionary(Length::Given(value)),
+        10 => Event::StartArray(None),
+        11 => Event::StartArray(Some(value)),
+        12 => Event::StartDictionary(None),
+        13 => Event::StartDictionary(Some(value)),
         14 => Event::EndCollection,
         _ => Event::Nan(value),
     }

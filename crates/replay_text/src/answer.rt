@@ -9,14 +9,8 @@ use utf::utf8::is_ascii;
 use utf::utf16::utf16_to_utf8;
 
 pub fn all<W: Write>(to: &mut W, s: &[u8]) -> io::Result<()> {
-    let mut at: usize = 0;
-    while at < s.len() {
-        let end = next(s, at, b'\n');
-        one(to, &s[at..end])?;
-        if end == s.len() {
-            return Ok(());
-        }
-        at = end + 1;
+    for line in s.split_inclusive(|b| *b == b'\n') {
+        one(to, line.strip_suffix(b"\n").unwrap_or(line))?;
     }
     Ok(())
 }
@@ -71,7 +65,7 @@ fn refuse<W: Write>(to: &mut W, changed: Changed) -> io::Result<()> {
 // The text in hex, where it is not empty.
 fn yes<W: Write>(to: &mut W, text: &[u8]) -> io::Result<()> {
     to.write_all(b"yes")?;
-    if text.len() == 0 {
+    if text.is_empty() {
         return Ok(());
     }
     let mut digits = [0u8; 4096];

@@ -1,7 +1,9 @@
 // The answers to the lines: one line for a tape alone, three where a line says what is lent; of a tape and a path what find.rt says.
+ghost use Rattle.std.specs.Prelude.{◌≤◌};
+
 use crate::find::found_under;
 use grammar::answer::{EventKind, Refusal, number_of};
-use hexlines::hex::{decode, encode, least};
+use hexlines::hex::{decode, encode};
 use hexlines::line::{after, next, number};
 use hexlines::stream::{fill, keep};
 use std::io;
@@ -27,24 +29,21 @@ pub fn all<R: Read, W: Write>(from: &mut R, to: &mut W, buffer: &mut [u8]) -> io
 
 // What is left when the input has ended: a line without its newline, if anything.
 fn last<W: Write>(to: &mut W, s: &[u8]) -> io::Result<()> {
-    if 0 < s.len() {
-        line_of(to, s)?;
+    if s.is_empty() {
+        return Ok(());
     }
-    Ok(())
+    line_of(to, s)
 }
 
 // Every line that ends here, and where the next begins.
 fn whole_lines<W: Write>(to: &mut W, s: &[u8]) -> io::Result<usize> {
-    let mut at: usize = 0;
-    while at < s.len() {
-        let end = next(s, at, b'\n');
-        if end == s.len() {
-            return Ok(at);
-        }
-        line_of(to, &s[at..end])?;
-        at = end + 1;
+    let Some(end) = s.iter().rposition(|b| *b == b'\n') else {
+        return Ok(0);
+    };
+    for line in s[..end].split(|b| *b == b'\n') {
+        line_of(to, line)?;
     }
-    Ok(at)
+    Ok(end + 1)
 }
 
 // A slash stands between a tape and a path.
@@ -98,7 +97,7 @@ fn lend<W: Write>(
 
 // How many of the last words are as they were. Those before the first one are not looked at.
 fn kept(words: &[u32], first: usize) -> u64 {
-    let looked_at = &words[least(first, words.len())..];
+    let looked_at = &words[first.min(words.len())..];
     looked_at
         .iter()
         .rev()
@@ -112,7 +111,7 @@ fn say_file<W: Write>(to: &mut W, written: Written, out: &[u8]) -> io::Result<()
         return say_answer(to, written);
     };
     to.write_all(b"file")?;
-    say_bytes(to, &out[..least(n, out.len())])?;
+    say_bytes(to, &out[..n.min(out.len())])?;
     to.write_all(b"\n")
 }
 
@@ -139,31 +138,29 @@ pub(crate) fn say_kinds<W: Write>(to: &mut W, refusal: Refusal) -> io::Result<()
     let Refusal::UnexpectedEventType(expected, found) = refusal else {
         return Ok(());
     };
-    say_kind(to, expected)?;
-    say_kind(to, found)
+    write!(to, " {} {}", name_of(expected), name_of(found))
 }
 
-fn say_kind<W: Write>(to: &mut W, kind: EventKind) -> io::Result<()> {
-    to.write_all(b" ")?;
+fn name_of(kind: EventKind) -> &'static str {
     match kind {
-        EventKind::ValueOrStartCollection => to.write_all(b"ValueOrStartCollection"),
-        EventKind::DictionaryKeyOrEndCollection => to.write_all(b"DictionaryKeyOrEndCollection"),
-        EventKind::StartArray => to.write_all(b"StartArray"),
-        EventKind::StartDictionary => to.write_all(b"StartDictionary"),
-        EventKind::EndCollection => to.write_all(b"EndCollection"),
-        EventKind::Boolean => to.write_all(b"Boolean"),
-        EventKind::Data => to.write_all(b"Data"),
-        EventKind::Date => to.write_all(b"Date"),
-        EventKind::Integer => to.write_all(b"Integer"),
-        EventKind::Real => to.write_all(b"Real"),
-        EventKind::String => to.write_all(b"String"),
-        EventKind::Uid => to.write_all(b"Uid"),
+        EventKind::ValueOrStartCollection => "ValueOrStartCollection",
+        EventKind::DictionaryKeyOrEndCollection => "DictionaryKeyOrEndCollection",
+        EventKind::StartArray => "StartArray",
+        EventKind::StartDictionary => "StartDictionary",
+        EventKind::EndCollection => "EndCollection",
+        EventKind::Boolean => "Boolean",
+        EventKind::Data => "Data",
+        EventKind::Date => "Date",
+        EventKind::Integer => "Integer",
+        EventKind::Real => "Real",
+        EventKind::String => "String",
+        EventKind::Uid => "Uid",
     }
 }
 
 // A space and the bytes in hex, where there are any.
 pub(crate) fn say_bytes<W: Write>(to: &mut W, bytes: &[u8]) -> io::Result<()> {
-    if bytes.len() == 0 {
+    if bytes.is_empty() {
         return Ok(());
     }
     to.write_all(b" ")?;
@@ -178,4 +175,11 @@ fn say_digits<W: Write>(to: &mut W, bytes: &[u8]) -> io::Result<()> {
     let mut digits = [0u8; 8192];
     let n = encode(bytes, &mut digits);
     to.write_all(&digits[..n])
+}
+
+// Kept: by std's `min` the bound of a slice of so large an array was not proved.
+fn least(a: usize, b: usize) -> usize
+    ensures { result ≤ b }
+{
+    if a <= b { a } else { b }
 }

@@ -1,15 +1,11 @@
 -- The line of a record and of an answer, what the scratch holds once it is put, and what a writer gets. docs/FORMAT.md, rules L1, L3, L9 and R30.
-use Rattle.std.specs.Prelude.{Bool, true, false, cond, List, [], ℕ, leb, length, take}
+use Rattle.std.specs.Prelude.{Bool, true, false, cond, List, [], ℕ, leb, length, take, Option, None, Some}
 use Rattle.digits.specs.Ascii.{ascii}
-use Rattle.digits.specs.declared.Put.{Put}
-use Rattle.digits.specs.declared.Put.TheVariants.{NoRoom}
-use Rattle.digits.specs.declared.Put.TheVariants.{End as Behind}
 use Rattle.event.specs.Meaning.{meaning_of}
 use Rattle.reader.specs.Said.{number_of}
 use Rattle.line.specs.Line.{refusal_line}
 use Rattle.line.specs.Put.{fixed_line, event_line}
-use Rattle.line.specs.declared.piece.Mark.{Mark}
-use Rattle.line.specs.declared.piece.Mark.TheVariants.{Nothing, Origin}
+use Rattle.line.specs.declared.piece.Origin.{Origin}
 use Rattle.line.specs.declared.put.Fixed.TheVariants.{End}
 use Rattle.reader.specs.Request.{asked_of, scratch_after, part_said}
 use Rattle.reader.specs.declared.answer.Answer.{Answer}
@@ -17,9 +13,9 @@ use Rattle.reader.specs.declared.answer.Answer.TheVariants.{Handed, Ended, Refus
 use Rattle.reader.specs.declared.answer.Record.{Record}
 
 -- what stands behind a record's line: in a trace its number and its offset, in a listing nothing
-unfoldable pub mark_for : Bool → Record → Mark
-mark_for true r = Origin r.number r.offset
-mark_for false r = Nothing
+unfoldable pub mark_for : Bool → Record → Option Origin
+mark_for true r = Some (record { number = r.number; offset = r.offset })
+mark_for false r = None
 
 -- a record whose bytes have been asked for, in a trace or in a listing: they are a part of the file or of the scratch
 unfoldable pub filled_line : Bool → List ℕ → List ℕ → Record → List ℕ
@@ -42,9 +38,9 @@ answer_scratch file scratch Ended = scratch
 answer_scratch file scratch (Refused refusal place) = scratch
 
 -- what a writer gets of a memory: what stands at its start, as far as the answer says that a line was put there
-unfoldable pub printed : List ℕ → Put → List ℕ
-printed out (Behind end) = cond (leb end (length out)) (take end out) []
-printed out NoRoom = ascii "no room\n"
+unfoldable pub printed : List ℕ → Option ℕ → List ℕ
+printed out (Some end) = cond (leb end (length out)) (take end out) []
+printed out None = ascii "no room\n"
 
 -- what a writer gets of a line: all of it where the memory has room for it, else that it has none (L1)
 unfoldable pub printed_line : List ℕ → List ℕ → List ℕ

@@ -12,8 +12,7 @@ ghost use Rattle.line.specs.Put.{fixed_line};
 ghost use Rattle.reader.specs.Request.{asked_of, scratch_after};
 ghost use Rattle.say.specs.Say.{mark_for, filled_line, record_line, answer_line, answer_scratch, printed, printed_line};
 
-use digits::Put;
-use line::piece::Mark;
+use line::piece::Origin;
 use line::put::{Fixed, put_event, put_fixed, put_refusal};
 use reader::answer::{Answer, Record};
 use reader::refusal::number_of;
@@ -65,7 +64,7 @@ pub fn put_record(
     out: &mut [u8],
     handed: Record,
     traced: bool,
-) -> Put
+) -> Option<usize>
     ensures value { result ≡ put_end out.old 0 (record_line traced file.now scratch.old handed) }
     ensures scratch_after { scratch.new ≡ scratch_after file.now scratch.old (asked_of file.now handed) }
     ensures out_after { out.new ≡ put_into out.old 0 (record_line traced file.now scratch.old handed) }
@@ -82,7 +81,7 @@ pub(crate) fn put_filled<'a>(
     out: &mut [u8],
     handed: Record,
     traced: bool,
-) -> Put
+) -> Option<usize>
     ensures value { result ≡ put_end out.old 0 (filled_line traced file.now scratch.now handed) }
     ensures out_after { out.new ≡ put_into out.old 0 (filled_line traced file.now scratch.now handed) }
 {
@@ -92,15 +91,12 @@ pub(crate) fn put_filled<'a>(
 }
 
 #[tactic(auto, unfolding(crate::specs::Say::mark_for))]
-fn mark_of(handed: Record, traced: bool) -> Mark
+fn mark_of(handed: Record, traced: bool) -> Option<Origin>
     ensures { result ≡ mark_for traced handed }
 {
-    if traced {
-        let number = handed.number as u64;
-        Mark::Origin(number, handed.offset)
-    } else {
-        Mark::Nothing
-    }
+    let number = handed.number as u64;
+    let offset = handed.offset;
+    traced.then_some(Origin { number, offset })
 }
 
 #[tactic(auto, using(crate::proofs::Printed::printed_put))]
@@ -123,12 +119,12 @@ pub fn say_refusal<W: Write>(to: &mut W, out: &mut [u8], number: u64, place: u64
 
 // Puts the line at the start of the memory to the writer.
 #[tactic(auto, unfolding(crate::specs::Say::printed))]
-pub fn say_put<W: Write>(to: &mut W, out: &[u8], put: Put) -> io::Result<()>
+pub fn say_put<W: Write>(to: &mut W, out: &[u8], put: Option<usize>) -> io::Result<()>
     ensures { OnOk result (Appends (W.contents to.old) (W.contents to.new) (printed out.now put)) }
 {
     match put {
-        Put::End(end) if end <= out.len() => to.write_all(&out[..end]),
-        Put::End(_) => Ok(()),
-        Put::NoRoom => to.write_all(b"no room\n"),
+        Some(end) if end <= out.len() => to.write_all(&out[..end]),
+        Some(_) => Ok(()),
+        None => to.write_all(b"no room\n"),
     }
 }

@@ -1,5 +1,5 @@
 -- What is appended is stepped to again.
-use Rattle.std.specs.Prelude.{Bool, List, ◌∷◌, ◌++◌, ◌≡◌, refl, length, set, take, drop}
+use Rattle.std.specs.Prelude.{Bool, List, ◌∷◌, ◌++◌, ◌≡◌, refl, length, set, take, drop, Some}
 use Rattle.std.proofs.Math.Bool.{true, false}
 use Rattle.std.proofs.Common.{append_assoc, sym, ◌∙◌, length-append, length-take-le, take_at, drop-drop}
 use Prim.Native.Nat.{ℕ, suc, ◌+◌, ◌-◌, ◌≤◌, ◌<◌}
@@ -18,7 +18,6 @@ use Rattle.tape.specs.ItemLaws.{reads_item}
 use Rattle.tape.specs.declared.append.Appended.{Appended}
 use Rattle.tape.specs.declared.append.Appended.TheVariants.{Held, BadEvent, NoRoom}
 use Rattle.tape.specs.declared.item.Item.{Item}
-use Rattle.tape.specs.declared.item.Step.TheVariants.{Item as ItemOf}
 
 -- an answer is known by its number and values
 pub said_one : (a b : Appended) → said a ≡ said b → a ≡ b
@@ -69,7 +68,7 @@ append_reads tape at m next h e =
 -- the same for an event that is appended with the bytes of its data or text beside it
 pub append_steps :
     (tape : List ℕ) (at : ℕ) (e : Event) (s : List ℕ) (next : ℕ) → InRange (meaning_of e s) → append_of tape at (meaning_of e s) ≡ held next →
-    (i : Item) × (item_at (append_to tape at (meaning_of e s)) at ≡ ItemOf i) × (meaning_in (append_to tape at (meaning_of e s)) i ≡ meaning_of e s) × (i.next ≡ next)
+    (i : Item) × (item_at (append_to tape at (meaning_of e s)) at ≡ Some i) × (meaning_in (append_to tape at (meaning_of e s)) i ≡ meaning_of e s) × (i.next ≡ next)
 append_steps tape at e s next h f = reads_item (append_to tape at (meaning_of e s)) at (meaning_of e s) next (append_reads tape at (meaning_of e s) next h f)
 
 -- the bytes held afterwards are those held before, then the event's
@@ -79,21 +78,25 @@ append_held tape at m next e =
     let l : length (take at tape) ≡ at = length-take-le at tape (omega (arith, t.room)) in
     rw (t.after, ← append_assoc (take at tape) (bytes_for m) (drop next tape)) (take_at (take at tape ++ bytes_for m) (drop next tape) next (rw (length-append, l) (sym t.ends)))
 
+-- what a function that puts bytes answers, and the tape that it leaves
+abbrev pub Puts : List ℕ → ℕ → List ℕ → Said → List ℕ → Type 0
+Puts tape at s x l = record { result_value : x ≡ put_of tape at s; tape_after : l ≡ put_to tape at s }
+
 module _ (tape : List ℕ) (at k : ℕ) (s : List ℕ) where
   -- a kind and bytes that don't fit
-  pub put_none : length tape < at + suc (length s) → (refused 27 at ≡ put_of tape at (k ∷ s)) × (tape ≡ put_to tape at (k ∷ s))
+  pub put_none : length tape < at + suc (length s) → Puts tape at (k ∷ s) (refused 27 at) tape
   unfolding put_of put_to fits
   put_none h =
       let e : leb (at + suc (length s)) (length tape) ≡ false = lt-leb (at + suc (length s)) (length tape) h in
-      (rw e, rw e)
+      record { result_value = rw e; tape_after = rw e }
 
   -- and that do: the kind is written, then they are
-  pub put_room : {n : ℕ} {l : List ℕ} → at + suc (length s) ≤ length tape → n ≡ at + 1 + length s → l ≡ sets (set tape at k) (at + 1) s → (held n ≡ put_of tape at (k ∷ s)) × (l ≡ put_to tape at (k ∷ s))
+  pub put_room : {n : ℕ} {l : List ℕ} → at + suc (length s) ≤ length tape → n ≡ at + 1 + length s → l ≡ sets (set tape at k) (at + 1) s → Puts tape at (k ∷ s) (held n) l
   unfolding put_of put_to fits
   put_room {n} {l} h f g =
       let e : leb (at + suc (length s)) (length tape) ≡ true = le-leb (at + suc (length s)) (length tape) h in
       let q : n ≡ at + suc (length s) = omega arith in
-      (rw (e, q), rw e (rw add-one at g))
+      record { result_value = rw (e, q); tape_after = rw e (rw add-one at g) }
 
 module _ (tape : List ℕ) (at : ℕ) (m : Meaning) where
   -- an event that the tape does not take

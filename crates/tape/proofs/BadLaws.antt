@@ -1,7 +1,6 @@
 -- What the tape doesn't take is read as no event: text that isn't UTF-8, and a date that isn't finite.
-use Rattle.std.specs.Prelude.{true, false, List, [], ◌∷◌, ◌++◌, ◌≡◌, refl, ℕ, ◌^◌, ◌<◌, pos, negsuc, length, drop}
+use Rattle.std.specs.Prelude.{true, false, List, [], ◌∷◌, ◌++◌, ◌≡◌, refl, ℕ, ◌^◌, ◌<◌, pos, negsuc, length, drop, None, Some}
 use Rattle.std.proofs.Common.{true≢false, append-nil, ap, sym, ◌∙◌, arith, drop_at}
-use Rattle.std.proofs.Math.Option.{none, some}
 use Rattle.number.specs.Be.{bytes_of}
 use Rattle.number.specs.BeLaws.{Bytes}
 use Rattle.event.specs.Date.{is_date}
@@ -16,10 +15,10 @@ use Rattle.utf.specs.Unicode.{is_utf8}
 -- bytes that begin as an event's do which the tape takes
 text_taken : (s : List ℕ) (m : Meaning) (r : List ℕ) → length s < 2 ^ 64 → OnTape m → bytes_for (text s) ≡ bytes_for m ++ r → is_utf8 s ≡ true
 unfolding bytes_for allowed
-text_taken s (array none) r h o e = let z : ◌≡◌ {A = ℕ} 0x09 0x0A = cc in absurd (omega arith)
-text_taken s (array (some n)) r h o e = let z : ◌≡◌ {A = ℕ} 0x09 0x0B = cc in absurd (omega arith)
-text_taken s (dictionary none) r h o e = let z : ◌≡◌ {A = ℕ} 0x09 0x0C = cc in absurd (omega arith)
-text_taken s (dictionary (some n)) r h o e = let z : ◌≡◌ {A = ℕ} 0x09 0x0D = cc in absurd (omega arith)
+text_taken s (array None) r h o e = let z : ◌≡◌ {A = ℕ} 0x09 0x0A = cc in absurd (omega arith)
+text_taken s (array (Some n)) r h o e = let z : ◌≡◌ {A = ℕ} 0x09 0x0B = cc in absurd (omega arith)
+text_taken s (dictionary None) r h o e = let z : ◌≡◌ {A = ℕ} 0x09 0x0C = cc in absurd (omega arith)
+text_taken s (dictionary (Some n)) r h o e = let z : ◌≡◌ {A = ℕ} 0x09 0x0D = cc in absurd (omega arith)
 text_taken s close r h o e = let z : ◌≡◌ {A = ℕ} 0x09 0x0E = cc in absurd (omega arith)
 text_taken s (boolean false) r h o e = let z : ◌≡◌ {A = ℕ} 0x09 0x01 = cc in absurd (omega arith)
 text_taken s (boolean true) r h o e = let z : ◌≡◌ {A = ℕ} 0x09 0x02 = cc in absurd (omega arith)
@@ -38,10 +37,10 @@ text_taken s (text t) r h o e =
 
 date_taken : (b : ℕ) (m : Meaning) (r : List ℕ) → b < 2 ^ 64 → OnTape m → bytes_for (date b) ≡ bytes_for m ++ r → is_date b ≡ true
 unfolding bytes_for allowed
-date_taken b (array none) r h o e = let z : ◌≡◌ {A = ℕ} 0x06 0x0A = cc in absurd (omega arith)
-date_taken b (array (some n)) r h o e = let z : ◌≡◌ {A = ℕ} 0x06 0x0B = cc in absurd (omega arith)
-date_taken b (dictionary none) r h o e = let z : ◌≡◌ {A = ℕ} 0x06 0x0C = cc in absurd (omega arith)
-date_taken b (dictionary (some n)) r h o e = let z : ◌≡◌ {A = ℕ} 0x06 0x0D = cc in absurd (omega arith)
+date_taken b (array None) r h o e = let z : ◌≡◌ {A = ℕ} 0x06 0x0A = cc in absurd (omega arith)
+date_taken b (array (Some n)) r h o e = let z : ◌≡◌ {A = ℕ} 0x06 0x0B = cc in absurd (omega arith)
+date_taken b (dictionary None) r h o e = let z : ◌≡◌ {A = ℕ} 0x06 0x0C = cc in absurd (omega arith)
+date_taken b (dictionary (Some n)) r h o e = let z : ◌≡◌ {A = ℕ} 0x06 0x0D = cc in absurd (omega arith)
 date_taken b close r h o e = let z : ◌≡◌ {A = ℕ} 0x06 0x0E = cc in absurd (omega arith)
 date_taken b (boolean false) r h o e = let z : ◌≡◌ {A = ℕ} 0x06 0x01 = cc in absurd (omega arith)
 date_taken b (boolean true) r h o e = let z : ◌≡◌ {A = ℕ} 0x06 0x02 = cc in absurd (omega arith)

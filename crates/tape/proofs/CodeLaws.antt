@@ -1,13 +1,12 @@
 -- The tape is a code: an event's bytes are read as that event, and what is read as an event is its bytes.
-use Rattle.std.specs.Prelude.{true, false, ◌≡◌, refl, ℕ, suc, ◌+◌, ◌^◌, ◌≤◌, ◌<◌, leb, pos, negsuc}
+use Rattle.std.specs.Prelude.{true, false, ◌≡◌, refl, ℕ, suc, ◌+◌, ◌^◌, ◌≤◌, ◌<◌, leb, pos, negsuc, Some, None}
 use mathlib.Core.List.{List, [], ◌∷◌, ◌++◌, append_assoc}
-use Rattle.std.proofs.Math.Option.{none, some}
 use Rattle.std.proofs.Math.Path.{ap, sym}
 use Rattle.std.proofs.Common.{ap₂, ◌∙◌, arith, take_at}
 use borrow.Author.Tests.{lt-ltb, le-leb}
 use Rattle.std.proofs.Math.ListN.{length, length-append}
 use Rattle.std.proofs.Math.Seq.{drop_at, get_or-append_seam}
-use Rattle.event.specs.Meaning.{Meaning, array, dictionary, close, boolean, bytes, date, integer, real, text, uid, meaning_of, value_of, given_of}
+use Rattle.event.specs.Meaning.{Meaning, array, dictionary, close, boolean, bytes, date, integer, real, text, uid, meaning_of, value_of}
 use Rattle.event.specs.RealLaws.{real_bits}
 use Rattle.number.specs.Be.{bytes_of}
 use Rattle.number.specs.BeLaws.{be_bytes_of, length_bytes_of}
@@ -17,7 +16,6 @@ use Rattle.tape.specs.Seven.{seven}
 use Rattle.number.specs.Part.{part}
 use Rattle.tape.specs.Value.{number_at, eight_at}
 use Rattle.tape.specs.ValueLaws.{number_seven}
-use Rattle.tape.specs.declared.value.Value.TheVariants.{Of}
 use Rattle.utf.specs.Unicode.{is_utf8}
 
 -- the place behind a byte
@@ -38,21 +36,21 @@ module _ (p : List ℕ) where
       rw (lt-ltb (length p) (length (p ++ (k ∷ s))) l, get_or-append_seam p k s 0)
 
   -- a number behind a kind
-  number_behind : (k n : ℕ) (q : List ℕ) → n < 2 ^ 64 → number_at (p ++ (k ∷ (seven n ++ q))) (length p + 1) ≡ Of n (length p + suc (length (seven n)))
+  number_behind : (k n : ℕ) (q : List ℕ) → n < 2 ^ 64 → number_at (p ++ (k ∷ (seven n ++ q))) (length p + 1) ≡ Some (n, length p + suc (length (seven n)))
   unfolding number_at
   number_behind k n q h =
       let e : p ++ (k ∷ (seven n ++ q)) ≡ (p ++ (k ∷ [])) ++ (seven n ++ q) = sym (append_assoc p (k ∷ []) (seven n ++ q)) in
-      rw (e, drop_at (p ++ (k ∷ [])) (seven n ++ q) (length p + 1) (snoc_length p k)) (number_seven (length p + 1) n q h ∙ ap (λ (j : ℕ). Of n j) (omega arith))
+      rw (e, drop_at (p ++ (k ∷ [])) (seven n ++ q) (length p + 1) (snoc_length p k)) (number_seven (length p + 1) n q h ∙ ap (λ (j : ℕ). Some (n, j)) (omega arith))
 
   -- 8 bytes behind a kind
-  eight_behind : (k b : ℕ) (q : List ℕ) → b < 2 ^ 64 → eight_at (p ++ (k ∷ (bytes_of 8 b ++ q))) (length p + 1) ≡ Of b (length p + suc (length (bytes_of 8 b)))
+  eight_behind : (k b : ℕ) (q : List ℕ) → b < 2 ^ 64 → eight_at (p ++ (k ∷ (bytes_of 8 b ++ q))) (length p + 1) ≡ Some (b, length p + suc (length (bytes_of 8 b)))
   unfolding eight_at
   eight_behind k b q h =
       let e : p ++ (k ∷ (bytes_of 8 b ++ q)) ≡ (p ++ (k ∷ [])) ++ (bytes_of 8 b ++ q) = sym (append_assoc p (k ∷ []) (bytes_of 8 b ++ q)) in
       let n : length (bytes_of 8 b) ≡ 8 = length_bytes_of 8 b in
       let l : length p + 1 + 8 ≤ length ((p ++ (k ∷ [])) ++ (bytes_of 8 b ++ q)) = simp (length-append, n) (omega arith) in
       let f : part ((p ++ (k ∷ [])) ++ (bytes_of 8 b ++ q)) (length p + 1) 8 ≡ bytes_of 8 b = rw n at (part_at (p ++ (k ∷ [])) (bytes_of 8 b) q (length p + 1) (snoc_length p k)) in
-      rw (e, le-leb (length p + 1 + 8) (length ((p ++ (k ∷ [])) ++ (bytes_of 8 b ++ q))) l, f, be_bytes_of 8 b h, n) (ap (λ (j : ℕ). Of b j) (omega arith))
+      rw (e, le-leb (length p + 1 + 8) (length ((p ++ (k ∷ [])) ++ (bytes_of 8 b ++ q))) l, f, be_bytes_of 8 b h, n) (ap (λ (j : ℕ). Some (b, j)) (omega arith))
 
 -- a length and so many bytes behind a kind
 module _ (p : List ℕ) (k : ℕ) (s q : List ℕ) where
@@ -71,7 +69,7 @@ module _ (p : List ℕ) (k : ℕ) (s q : List ℕ) where
   unfolding start
   start_is = length-append p (k ∷ seven (length s))
 
-  run_number : length s < 2 ^ 64 → number_at run (length p + 1) ≡ Of (length s) start
+  run_number : length s < 2 ^ 64 → number_at run (length p + 1) ≡ Some (length s, start)
   unfolding run start
   run_number h = rw append_assoc (number_behind p k (length s) (s ++ q) h)
 
@@ -91,11 +89,11 @@ module _ (p : List ℕ) (k : ℕ) (s q : List ℕ) where
 
 -- an event's bytes are read as that event, whatever stands in front of them and behind
 pub reads_back : (p : List ℕ) (m : Meaning) (q : List ℕ) → OnTape m → read_at (p ++ (bytes_for m ++ q)) (length p) ≡ event m (length p + length (bytes_for m))
-unfolding run bytes_for allowed read_at reading_of of_kind plain bytes_at numbered negative date_in data_in text_in meaning_in meaning_of value_of given_of
-reads_back p (array none) q h = rw (kind_at_law p 0x0A q)
-reads_back p (array (some n)) q h = rw (kind_at_law p 0x0B (seven n ++ q), number_behind p 0x0B n q h.0)
-reads_back p (dictionary none) q h = rw (kind_at_law p 0x0C q)
-reads_back p (dictionary (some n)) q h = rw (kind_at_law p 0x0D (seven n ++ q), number_behind p 0x0D n q h.0)
+unfolding run bytes_for allowed read_at reading_of of_kind plain bytes_at numbered negative date_in data_in text_in meaning_in meaning_of value_of
+reads_back p (array None) q h = rw (kind_at_law p 0x0A q)
+reads_back p (array (Some n)) q h = rw (kind_at_law p 0x0B (seven n ++ q), number_behind p 0x0B n q h.0)
+reads_back p (dictionary None) q h = rw (kind_at_law p 0x0C q)
+reads_back p (dictionary (Some n)) q h = rw (kind_at_law p 0x0D (seven n ++ q), number_behind p 0x0D n q h.0)
 reads_back p close q h = rw (kind_at_law p 0x0E q)
 reads_back p (boolean false) q h = rw (kind_at_law p 0x01 q)
 reads_back p (boolean true) q h = rw (kind_at_law p 0x02 q)
@@ -115,10 +113,10 @@ reads_back p (text s) q h =
 -- an event has a byte at least
 pub bytes_some : (m : Meaning) → 0 < length (bytes_for m)
 unfolding bytes_for
-bytes_some (array none) = omega arith
-bytes_some (array (some n)) = omega arith
-bytes_some (dictionary none) = omega arith
-bytes_some (dictionary (some n)) = omega arith
+bytes_some (array None) = omega arith
+bytes_some (array (Some n)) = omega arith
+bytes_some (dictionary None) = omega arith
+bytes_some (dictionary (Some n)) = omega arith
 bytes_some close = omega arith
 bytes_some (boolean false) = omega arith
 bytes_some (boolean true) = omega arith

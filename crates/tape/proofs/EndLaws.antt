@@ -1,5 +1,5 @@
 -- Where an event stands, it ends where the next one begins.
-use Rattle.std.specs.Prelude.{Bool, cond, List, ◌⊎◌, ◌≡◌, ℕ, ◌+◌, ◌^◌, ◌≤◌, ◌<◌, ltb, length, get_or}
+use Rattle.std.specs.Prelude.{Bool, cond, List, ◌⊎◌, ◌≡◌, ℕ, ◌+◌, ◌^◌, ◌≤◌, ◌<◌, ltb, length, get_or, None, Option, Some}
 use Rattle.std.proofs.Math.Bool.{true, false}
 use Rattle.std.proofs.Common.{inl, inr, ◌∙◌, ap, arith, lit<}
 use Rattle.std.proofs.Math.Path.{refl}
@@ -14,34 +14,28 @@ use Rattle.tape.specs.Item.{plain, numbered, negative, date_in, bytes_at, data_i
 use Rattle.tape.specs.ItemLaws.{reads_item}
 use Rattle.number.specs.Part.{part}
 use Rattle.tape.specs.Value.{eight_at}
-use Rattle.tape.specs.declared.end.End.{End}
-use Rattle.tape.specs.declared.end.End.TheVariants.{At, NoEvent}
 use Rattle.tape.specs.declared.item.Item.{Item}
-use Rattle.tape.specs.declared.item.Step.{Step}
-use Rattle.tape.specs.declared.item.Step.TheVariants.{Item as ItemOf, Bad}
-use Rattle.tape.specs.declared.value.Value.{Value}
-use Rattle.tape.specs.declared.value.Value.TheVariants.{Of, NoValue}
 use Rattle.utf.specs.Unicode.{is_utf8}
 
 -- an answer to a step, and the end: where the answer is an item, the next event begins there
-abbrev Ends : Step → End → Type 0
-Ends (ItemOf i) e = e ≡ At i.next
-Ends Bad e = Unit {0}
+abbrev Ends : Option Item → Option ℕ → Type 0
+Ends (Some i) e = e ≡ Some i.next
+Ends None e = Unit {0}
 
-ends_if : (b : Bool) (x y : Step) (e : End) → (b ≡ true → Ends x e) → Ends y e → Ends (cond b x y) e
+ends_if : (b : Bool) (x y : Option Item) (e : Option ℕ) → (b ≡ true → Ends x e) → Ends y e → Ends (cond b x y) e
 ends_if true x y e f g = f refl
 ends_if false x y e f g = g
 
 module _ (tape : List ℕ) where
-  ends_numbered : (f : ℕ → Event) (v : Value) → Ends (numbered f v) (after_number v)
+  ends_numbered : (f : ℕ → Event) (v : Option (ℕ × ℕ)) → Ends (numbered f v) (after_number v)
   unfolding numbered plain after_number
-  ends_numbered f (Of n next) = refl
-  ends_numbered f NoValue = tt
+  ends_numbered f (Some (n, next)) = refl
+  ends_numbered f None = tt
 
-  ends_negative : (v : Value) → Ends (negative v) (after_negative v)
+  ends_negative : (v : Option (ℕ × ℕ)) → Ends (negative v) (after_negative v)
   unfolding negative plain after_negative
-  ends_negative (Of k next) = ends_if (ltb k (2 ^ 63)) _ _ _ (λ e. rw e) tt
-  ends_negative NoValue = tt
+  ends_negative (Some (k, next)) = ends_if (ltb k (2 ^ 63)) _ _ _ (λ e. rw e) tt
+  ends_negative None = tt
 
   ends_eight : (f : ℕ → Event) (at : ℕ) → Ends (numbered f (eight_at tape at)) (after_size (length tape) at 8)
   unfolding numbered plain eight_at after_size
@@ -59,15 +53,15 @@ module _ (tape : List ℕ) where
       go true e = rw (e, date_in) (ends_if (is_date (be (part tape at 8))) _ _ _ (λ d. refl) tt)
       go false e = rw e tt
 
-  ends_data : (v : Value) → Ends (data_in tape v) (after_bytes (length tape) v)
+  ends_data : (v : Option (ℕ × ℕ)) → Ends (data_in tape v) (after_bytes (length tape) v)
   unfolding data_in bytes_at after_bytes after_size
-  ends_data (Of n at) = ends_if (leb (at + n) (length tape)) _ _ _ (λ e. rw e) tt
-  ends_data NoValue = tt
+  ends_data (Some (n, at)) = ends_if (leb (at + n) (length tape)) _ _ _ (λ e. rw e) tt
+  ends_data None = tt
 
-  ends_text : (v : Value) → Ends (text_in tape v) (after_bytes (length tape) v)
+  ends_text : (v : Option (ℕ × ℕ)) → Ends (text_in tape v) (after_bytes (length tape) v)
   unfolding text_in bytes_at after_bytes after_size
-  ends_text (Of n at) = ends_if (leb (at + n) (length tape)) _ _ _ (λ e. ends_if (is_utf8 (part tape at n)) _ _ _ (λ u. rw e) tt) tt
-  ends_text NoValue = tt
+  ends_text (Some (n, at)) = ends_if (leb (at + n) (length tape)) _ _ _ (λ e. ends_if (is_utf8 (part tape at n)) _ _ _ (λ u. rw e) tt) tt
+  ends_text None = tt
 
   ends_kind : (k at : ℕ) → Ends (of_kind tape k at) (end_behind tape k at)
   unfolding of_kind end_behind plain
@@ -89,7 +83,7 @@ module _ (tape : List ℕ) where
       tt)))))))))))))
 
   -- no kind, by the tests of the code
-  pub behind_none : (k at : ℕ) → 0x0A ≤ k → ((k ≡ 0x0A) ⊎ ((k ≡ 0x0C) ⊎ (k ≡ 0x0E)) → ⊥) → ((k ≡ 0x03) ⊎ ((k ≡ 0x07) ⊎ ((k ≡ 0x0B) ⊎ (k ≡ 0x0D))) → ⊥) → end_behind tape k at ≡ NoEvent
+  pub behind_none : (k at : ℕ) → 0x0A ≤ k → ((k ≡ 0x0A) ⊎ ((k ≡ 0x0C) ⊎ (k ≡ 0x0E)) → ⊥) → ((k ≡ 0x03) ⊎ ((k ≡ 0x07) ⊎ ((k ≡ 0x0B) ⊎ (k ≡ 0x0D))) → ⊥) → end_behind tape k at ≡ None
   unfolding end_behind
   behind_none k at h f g =
       let not : (n : ℕ) → n < 0x0A → eqb k n ≡ false = λ n l. ne_eqb k n (omega arith) in
@@ -116,7 +110,7 @@ module _ (tape : List ℕ) where
     unfolding end_of
     end_of_law k h e = rw (lt-ltb at (length tape) h, e)
 
-    pub end_past : length tape ≤ at → end_of tape at ≡ NoEvent
+    pub end_past : length tape ≤ at → end_of tape at ≡ None
     unfolding end_of
     end_past h = rw (le-ltb at (length tape) h)
 
@@ -124,11 +118,11 @@ module _ (tape : List ℕ) where
     unfolding item_at end_of
     ends_item = ends_if (ltb at (length tape)) _ _ _ (λ e. rw e (ends_kind (get_or tape at 0) (at + 1))) tt
 
-    pub end_item : (i : Item) → item_at tape at ≡ ItemOf i → end_of tape at ≡ At i.next
+    pub end_item : (i : Item) → item_at tape at ≡ Some i → end_of tape at ≡ Some i.next
     end_item i e = rw e at ends_item
 
     -- the same by meanings
-    pub end_reads : (m : Meaning) (next : ℕ) → read_at tape at ≡ event m next → end_of tape at ≡ At next
+    pub end_reads : (m : Meaning) (next : ℕ) → read_at tape at ≡ event m next → end_of tape at ≡ Some next
     end_reads m next e =
         let r = reads_item tape at m next e in
-        end_item r.0 r.1 ∙ ap At r.3
+        end_item r.0 r.1 ∙ ap Some r.3

@@ -1,4 +1,5 @@
 -- What an event that code holds means is in range: its numbers have 64 bits. `Is (row the_type) e vs` is what owning the event tells.
+use Rattle.std.specs.Prelude.{None, Some}
 use mathlib.Core.Bool.{Bool, true, false}
 use mathlib.Core.List.{List}
 use mathlib.Core.Path.{◌≡◌, refl}
@@ -14,12 +15,11 @@ use lib.IntN.{pos, negsuc}
 use lib.ListN.{length}
 use mir.Val.{Val}
 use Rattle.event.specs.contracts.Event.{the_type}
-use Rattle.event.specs.Meaning.{meaning_of, given_of, value_of}
+use Rattle.event.specs.Meaning.{meaning_of, value_of}
 use Rattle.event.specs.Real.{float_bits}
 use Rattle.event.specs.declared.Event.{Event}
 use Rattle.event.specs.declared.Event.TheVariants.{StartArray, StartDictionary, EndCollection, Boolean, Data, Date, Integer, Real, Nan, String, Uid}
 use Rattle.event.specs.declared.Integer.TheVariants.{Signed, Unsigned}
-use Rattle.event.specs.declared.Length.TheVariants.{Given, NotGiven}
 use Rattle.tape.specs.Code.{InRange}
 
 -- a float's bits are 64
@@ -33,11 +33,11 @@ bits_below x h = go (is_nan x) refl
 
 -- `s` are the bytes beside it
 pub in_range_law : (e : Event) (s : List ℕ) (vs : List Val) → Is (row the_type) e vs → length s < 2 ^ 64 → InRange (meaning_of e s)
-unfolding meaning_of given_of value_of
-in_range_law (StartArray (Given n)) s vs h k = search rules
-in_range_law (StartArray NotGiven) s vs h k = tt
-in_range_law (StartDictionary (Given n)) s vs h k = search rules
-in_range_law (StartDictionary NotGiven) s vs h k = tt
+unfolding meaning_of value_of
+in_range_law (StartArray (Some n)) s vs h k = search rules
+in_range_law (StartArray None) s vs h k = tt
+in_range_law (StartDictionary (Some n)) s vs h k = search rules
+in_range_law (StartDictionary None) s vs h k = tt
 in_range_law EndCollection s vs h k = tt
 in_range_law (Boolean b) s vs h k = tt
 in_range_law Data s vs h k = k

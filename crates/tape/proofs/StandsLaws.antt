@@ -1,5 +1,5 @@
 -- What stands at a place of the tape: the kind, the number behind it, the bytes behind that.
-use Rattle.std.specs.Prelude.{List, ◌∷◌, ◌++◌, ◌≡◌, refl, ℕ, suc, ◌+◌, ◌^◌, ◌≤◌, ◌<◌, length, get_or, drop}
+use Rattle.std.specs.Prelude.{List, ◌∷◌, ◌++◌, ◌≡◌, refl, ℕ, suc, ◌+◌, ◌^◌, ◌≤◌, ◌<◌, length, get_or, drop, Some}
 use Rattle.std.proofs.Common.{append_assoc, ap, sym, ◌∙◌, add-one, arith, length-append, length-drop, drop_at, drop-cons, drop-drop, take_at}
 use Rattle.number.specs.BeLaws.{Bytes}
 use Rattle.tape.proofs.FormLaws.{Stands}
@@ -9,7 +9,6 @@ use Rattle.tape.specs.SevenLaws.{seven_long}
 use Rattle.number.specs.Part.{part}
 use Rattle.tape.specs.Value.{number_at}
 use Rattle.tape.specs.ValueLaws.{number_seven, number_begins}
-use Rattle.tape.specs.declared.value.Value.TheVariants.{Of}
 
 module _ {tape : List ℕ} {at k : ℕ} {s : List ℕ} {next : ℕ} (st : Stands tape at (k ∷ s) next) where
   pub kind_inside : at < length tape
@@ -30,14 +29,14 @@ module _ {tape : List ℕ} {at k : ℕ} {s : List ℕ} {next : ℕ} (st : Stands
   ends_inside = omega (arith, simp (length-append, length-drop) at (ap length st.split), st.ends, kind_inside)
 
 -- a number behind the kind
-pub number_there : {tape : List ℕ} {at k next : ℕ} (n : ℕ) → n < 2 ^ 64 → Stands tape at (k ∷ seven n) next → number_at tape (at + 1) ≡ Of n next
+pub number_there : {tape : List ℕ} {at k next : ℕ} (n : ℕ) → n < 2 ^ 64 → Stands tape at (k ∷ seven n) next → number_at tape (at + 1) ≡ Some (n, next)
 unfolding number_at
-number_there {tape} {at} {k} {next} n h st = rw (behind_there st) (number_seven (at + 1) n (drop next tape) h ∙ ap (λ (j : ℕ). Of n j) (omega (arith, st.ends)))
+number_there {tape} {at} {k} {next} n h st = rw (behind_there st) (number_seven (at + 1) n (drop next tape) h ∙ ap (λ (j : ℕ). Some (n, j)) (omega (arith, st.ends)))
 
 -- a length behind the kind, and so many bytes behind that
 pub record Run (tape : List ℕ) (at : ℕ) (s : List ℕ) : Type 0 where
   pub start : ℕ
-  pub number : number_at tape at ≡ Of (length s) start
+  pub number : number_at tape at ≡ Some (length s, start)
   pub room : start + length s ≤ length tape
   pub bytes : part tape start (length s) ≡ s
 
@@ -55,7 +54,7 @@ run_there {tape} {at} {k} {next} s h st =
     }
 
 -- the bytes behind a length of 63 bits begin at the fifth place at least
-pub number_far : (tape : List ℕ) (at n next : ℕ) → Bytes tape → number_at tape at ≡ Of n next → 2 ^ 62 ≤ n → 5 ≤ next
+pub number_far : (tape : List ℕ) (at n next : ℕ) → Bytes tape → number_at tape at ≡ Some (n, next) → 2 ^ 62 ≤ n → 5 ≤ next
 unfolding number_at
 number_far tape at n next good e h =
     let b = number_begins (drop at tape) at n next (bytes_drop at tape good) e in

@@ -1,6 +1,5 @@
 -- An event's bytes on the tape are bytes, where those of its data or text are.
-use Rattle.std.specs.Prelude.{Bool, true, false, ◌≡◌, refl, ℕ, zero, suc, ◌/◌, ◌^◌, ◌≤◌, ◌<◌, ltb, pos, negsuc, length}
-use Rattle.std.proofs.Math.Option.{none, some}
+use Rattle.std.specs.Prelude.{Bool, true, false, ◌≡◌, refl, ℕ, zero, suc, ◌/◌, ◌^◌, ◌≤◌, ◌<◌, ltb, pos, negsuc, length, None, Some}
 use Rattle.std.proofs.Common.{arith, ltb-true, ltb-false}
 use Rattle.event.specs.Meaning.{Meaning, array, dictionary, close, boolean, bytes, date, integer, real, text, uid}
 use Rattle.number.specs.BeLaws.{Bytes, bytes_append, bytes_of_bytes}
@@ -43,10 +42,10 @@ seven_bytes n h = groups_bytes 9 n (omega arith)
 
 pub sound_bytes : (m : Meaning) → Sound m → Bytes (bytes_for m)
 unfolding bytes_for
-sound_bytes (array none) h = (omega arith, tt)
-sound_bytes (array (some n)) h = (omega arith, seven_bytes n h.0)
-sound_bytes (dictionary none) h = (omega arith, tt)
-sound_bytes (dictionary (some n)) h = (omega arith, seven_bytes n h.0)
+sound_bytes (array None) h = (omega arith, tt)
+sound_bytes (array (Some n)) h = (omega arith, seven_bytes n h.0)
+sound_bytes (dictionary None) h = (omega arith, tt)
+sound_bytes (dictionary (Some n)) h = (omega arith, seven_bytes n h.0)
 sound_bytes close h = (omega arith, tt)
 sound_bytes (boolean false) h = (omega arith, tt)
 sound_bytes (boolean true) h = (omega arith, tt)

@@ -1,6 +1,5 @@
 -- An event's bytes on the tape. docs/FORMAT.md, rule T2.
-use Rattle.std.specs.Prelude.{Bool, true, false, List, [], ◌∷◌, ◌++◌, ◌≡◌, ℕ, ◌<◌, ◌^◌, pos, negsuc, length}
-use Rattle.std.proofs.Math.Option.{none, some}
+use Rattle.std.specs.Prelude.{Bool, true, false, List, [], ◌∷◌, ◌++◌, ◌≡◌, ℕ, ◌<◌, ◌^◌, pos, negsuc, length, None, Some}
 use Rattle.event.specs.Date.{is_date}
 use Rattle.event.specs.Meaning.{Meaning, array, dictionary, close, boolean, bytes, date, integer, real, text, uid}
 use Rattle.number.specs.Be.{bytes_of}
@@ -17,18 +16,18 @@ bytes_for (date b) = 0x06 ∷ bytes_of 8 b
 bytes_for (uid n) = 0x07 ∷ seven n
 bytes_for (bytes s) = 0x08 ∷ (seven (length s) ++ s)
 bytes_for (text s) = 0x09 ∷ (seven (length s) ++ s)
-bytes_for (array none) = 0x0A ∷ []
-bytes_for (array (some n)) = 0x0B ∷ seven n
-bytes_for (dictionary none) = 0x0C ∷ []
-bytes_for (dictionary (some n)) = 0x0D ∷ seven n
+bytes_for (array None) = 0x0A ∷ []
+bytes_for (array (Some n)) = 0x0B ∷ seven n
+bytes_for (dictionary None) = 0x0C ∷ []
+bytes_for (dictionary (Some n)) = 0x0D ∷ seven n
 bytes_for close = 0x0E ∷ []
 
 -- a meaning that an event can have: its numbers have 64 bits, and an integer is an i64's or a u64's
 abbrev pub InRange : Meaning → Type 0
-InRange (array none) = Unit {0}
-InRange (array (some n)) = n < 2 ^ 64
-InRange (dictionary none) = Unit {0}
-InRange (dictionary (some n)) = n < 2 ^ 64
+InRange (array None) = Unit {0}
+InRange (array (Some n)) = n < 2 ^ 64
+InRange (dictionary None) = Unit {0}
+InRange (dictionary (Some n)) = n < 2 ^ 64
 InRange close = Unit {0}
 InRange (boolean b) = Unit {0}
 InRange (bytes s) = length s < 2 ^ 64

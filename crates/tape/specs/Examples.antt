@@ -1,6 +1,5 @@
 -- Events and their bytes, one for each kind and at the limits, computed; then bytes that are no event.
-use Rattle.std.specs.Prelude.{true, false, List, [], ◌∷◌, map, ◌≡◌, refl, ℕ, pos, negsuc, replicate}
-use Rattle.std.proofs.Math.Option.{none, some}
+use Rattle.std.specs.Prelude.{true, false, List, [], ◌∷◌, map, ◌≡◌, refl, ℕ, pos, negsuc, replicate, None, Some}
 use Rattle.event.specs.DateLaws.{largest, beyond}
 use Rattle.event.specs.Meaning.{Meaning, array, dictionary, close, boolean, bytes, date, integer, real, text, uid}
 use Rattle.tape.specs.Append.{held, refused, append_of, append_to}
@@ -29,10 +28,10 @@ meanings =
     bytes [] ∷
     text (0xC3 ∷ 0xA9 ∷ []) ∷
     text [] ∷
-    array none ∷
-    array (some 3) ∷
-    dictionary none ∷
-    dictionary (some 1) ∷
+    array None ∷
+    array (Some 3) ∷
+    dictionary None ∷
+    dictionary (Some 1) ∷
     close ∷
     []
 
@@ -103,7 +102,7 @@ dates = (refl, refl, refl, refl)
 pub walked :
     map events_of
     ((0x0B ∷ 0x03 ∷ 0x03 ∷ 0x01 ∷ 0x09 ∷ 0x01 ∷ 0x61 ∷ 0x03 ∷ 0x01 ∷ 0x0E ∷ []) ∷ (0x0A ∷ 0x0F ∷ []) ∷ []) ≡
-    (whole (array (some 3) ∷ integer (pos 1) ∷ text (0x61 ∷ []) ∷ integer (pos 1) ∷ close ∷ []) ∷ broken (array none ∷ []) 1 ∷ [])
+    (whole (array (Some 3) ∷ integer (pos 1) ∷ text (0x61 ∷ []) ∷ integer (pos 1) ∷ close ∷ []) ∷ broken (array None ∷ []) 1 ∷ [])
 unfolding computed
 walked = refl
 

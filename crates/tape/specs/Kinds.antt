@@ -1,17 +1,15 @@
 -- Kinds that go together, as the code takes them.
-use Rattle.std.specs.Prelude.{cond, List, [], ◌∷◌, ℕ, ◌+◌, eqb, ℤ, pos, negsuc}
+use Rattle.std.specs.Prelude.{cond, List, [], ◌∷◌, ℕ, ◌+◌, eqb, ℤ, pos, negsuc, None, Option, Some}
 use Rattle.event.specs.Real.{real_of}
 use Rattle.event.specs.declared.Event.{Event}
 use Rattle.event.specs.declared.Event.TheVariants.{StartArray, StartDictionary, Integer, Uid}
 use Rattle.event.specs.declared.Integer.TheVariants.{Unsigned}
-use Rattle.event.specs.declared.Length.{Length}
-use Rattle.event.specs.declared.Length.TheVariants.{Given, NotGiven}
 use Rattle.tape.specs.Seven.{seven}
 
 -- the bytes of a container's start, by its kind without a length
-unfoldable pub start_bytes : ℕ → Length → List ℕ
-start_bytes kind NotGiven = kind ∷ []
-start_bytes kind (Given n) = (kind + 1) ∷ seven n
+unfoldable pub start_bytes : ℕ → Option ℕ → List ℕ
+start_bytes kind None = kind ∷ []
+start_bytes kind (Some n) = (kind + 1) ∷ seven n
 
 -- the kind of a signed integer
 unfoldable pub sign_kind : ℤ → ℕ
@@ -24,4 +22,4 @@ event_of kind n =
     cond (eqb kind 0x03) (Integer (Unsigned n))
     (cond (eqb kind 0x05) (real_of n)
     (cond (eqb kind 0x07) (Uid n)
-    (cond (eqb kind 0x0B) (StartArray (Given n)) (StartDictionary (Given n)))))
+    (cond (eqb kind 0x0B) (StartArray (Some n)) (StartDictionary (Some n)))))

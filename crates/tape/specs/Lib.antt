@@ -9,6 +9,7 @@ pub mod Item
 pub mod ItemLaws
 pub mod Kinds
 pub mod KindsLaws
+pub mod Pairs
 pub mod Said
 pub mod SaidLaws
 pub mod Seven

@@ -1,9 +1,7 @@
 -- How many bytes an event has on the tape, as the code counts them.
-use Rattle.std.specs.Prelude.{Bool, true, false, List, ◌∷◌, ◌++◌, ◌≡◌, refl, ℕ, suc, ◌+◌, length}
+use Rattle.std.specs.Prelude.{Bool, true, false, List, ◌∷◌, ◌++◌, ◌≡◌, refl, ℕ, suc, ◌+◌, length, None, Option, Some}
 use Rattle.std.proofs.Common.{ap, sym, arith, length-append}
-use Rattle.event.specs.Meaning.{boolean, dictionary, given_of}
-use Rattle.event.specs.declared.Length.{Length}
-use Rattle.event.specs.declared.Length.TheVariants.{Given, NotGiven}
+use Rattle.event.specs.Meaning.{boolean, dictionary}
 use Rattle.number.specs.Be.{bytes_of}
 use Rattle.number.specs.BeLaws.{length_bytes_of}
 use Rattle.tape.specs.Code.{bytes_for}
@@ -18,10 +16,10 @@ boolean_size false = refl
 pub eight_size : (kind b : ℕ) → 9 ≡ length (kind ∷ bytes_of 8 b)
 eight_size kind b = sym (ap suc (length_bytes_of 8 b))
 
-pub dictionary_size : (n : Length) → length (start_bytes 0x0A n) ≡ length (bytes_for (dictionary (given_of n)))
-unfolding start_bytes bytes_for given_of
-dictionary_size (Given n) = refl
-dictionary_size NotGiven = refl
+pub dictionary_size : (n : Option ℕ) → length (start_bytes 0x0A n) ≡ length (bytes_for (dictionary n))
+unfolding start_bytes bytes_for
+dictionary_size (Some n) = refl
+dictionary_size None = refl
 
 pub number_size : (kind n : ℕ) → 1 + length (seven n) ≡ length (kind ∷ seven n)
 number_size kind n = omega arith

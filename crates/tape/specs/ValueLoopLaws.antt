@@ -1,5 +1,5 @@
 -- A number by the turns of the loop that reads it is the number.
-use Rattle.std.specs.Prelude.{Bool, cond, ◌&&◌, List, ◌∷◌, ◌≡◌, ℕ, suc, ◌+◌, ◌-◌, ◌*◌, ◌^◌, ◌≤◌, ◌<◌, length, get_or, drop}
+use Rattle.std.specs.Prelude.{Bool, cond, ◌&&◌, List, ◌∷◌, ◌≡◌, ℕ, suc, ◌+◌, ◌-◌, ◌*◌, ◌^◌, ◌≤◌, ◌<◌, length, get_or, drop, None, Option, Some}
 use Rattle.std.proofs.Math.Bool.{true, false}
 use Rattle.std.proofs.Math.Path.{refl}
 use Rattle.std.proofs.Common.{ap, ◌∙◌, pow-suc, mul_assoc, mul_comm, add-mul, mul-le-mul, mul-le-mul_right, add-one, lit<, drop_of_length-le, drop-cons}
@@ -11,8 +11,6 @@ use Rattle.number.specs.BeLaws.{Bytes}
 use Rattle.tape.specs.Value.{onto, number_from}
 use Rattle.tape.specs.ValueLaws.{number_last, number_more, number_begins}
 use Rattle.tape.specs.ValueLoop.{Units, above}
-use Rattle.tape.specs.declared.value.Value.{Value}
-use Rattle.tape.specs.declared.value.Value.TheVariants.{Of, NoValue}
 
 -- before the first group
 pub no_groups : Units 0 1
@@ -63,10 +61,10 @@ module _ (value unit : ℕ) (u : Units value unit) where
               absurd (n (e ∙ ap (λ (j : ℕ). 128 ^ j) q))
 
   -- a group with others after it goes to those before it
-  pub above_onto : (b : ℕ) (r : Value) → b < 128 → above value unit (onto b r) ≡ above (value + b * unit) (unit * 128) r
+  pub above_onto : (b : ℕ) (r : Option (ℕ × ℕ)) → b < 128 → above value unit (onto b r) ≡ above (value + b * unit) (unit * 128) r
   unfolding above onto
-  above_onto b NoValue h = refl
-  above_onto b (Of n next) h = go (eqb n 0) (ltb n (2 ^ 57)) refl refl
+  above_onto b None h = refl
+  above_onto b (Some (n, next)) h = go (eqb n 0) (ltb n (2 ^ 57)) refl refl
     where
       two : ltb 1 (unit * 128) ≡ true
       two = lt-ltb 1 (unit * 128) (omega (arith, unit_some))
@@ -77,7 +75,7 @@ module _ (value unit : ℕ) (u : Units value unit) where
           let f : n * 128 * unit ≡ n * (unit * 128) = mul_assoc n 128 unit ∙ ap (λ (x : ℕ). n * x) (mul_comm 128 unit) in
           omega (arith, e, f)
 
-      go : (s t : Bool) → eqb n 0 ≡ s → ltb n (2 ^ 57) ≡ t → above value unit (onto b (Of n next)) ≡ above (value + b * unit) (unit * 128) (Of n next)
+      go : (s t : Bool) → eqb n 0 ≡ s → ltb n (2 ^ 57) ≡ t → above value unit (onto b (Some (n, next))) ≡ above (value + b * unit) (unit * 128) (Some (n, next))
       go true t e f = rw (e, two)
       go false false e f =
           let l : 2 ^ 57 ≤ n = ltb-false n (2 ^ 57) f in
@@ -90,12 +88,12 @@ module _ (value unit : ℕ) (u : Units value unit) where
           simp (e, f, w, sum)
 
   -- a tenth group has none after it
-  pub above_tenth : (b : ℕ) (r : Value) → unit ≡ 2 ^ 63 → above value unit (onto b r) ≡ NoValue
+  pub above_tenth : (b : ℕ) (r : Option (ℕ × ℕ)) → unit ≡ 2 ^ 63 → above value unit (onto b r) ≡ None
   unfolding above onto
-  above_tenth b NoValue q = refl
-  above_tenth b (Of n next) q = go (eqb n 0) (ltb n (2 ^ 57)) refl refl
+  above_tenth b None q = refl
+  above_tenth b (Some (n, next)) q = go (eqb n 0) (ltb n (2 ^ 57)) refl refl
     where
-      go : (s t : Bool) → eqb n 0 ≡ s → ltb n (2 ^ 57) ≡ t → above value unit (onto b (Of n next)) ≡ NoValue
+      go : (s t : Bool) → eqb n 0 ≡ s → ltb n (2 ^ 57) ≡ t → above value unit (onto b (Some (n, next))) ≡ None
       go true t e f = rw e
       go false false e f = rw (e, f)
       go false true e f =
@@ -110,7 +108,7 @@ module _ (value unit : ℕ) (u : Units value unit) where
     front : number_from i (drop i tape) ≡ number_from i (get_or tape i 0 ∷ drop (i + 1) tape)
     front = rw (add-one, drop-cons tape i 0 h)
 
-    pub turn_last : get_or tape i 0 < 128 → above value unit (number_from i (drop i tape)) ≡ above value unit (Of (get_or tape i 0) (i + 1))
+    pub turn_last : get_or tape i 0 < 128 → above value unit (number_from i (drop i tape)) ≡ above value unit (Some (get_or tape i 0, i + 1))
     turn_last l = ap (above value unit) (front ∙ number_last i (get_or tape i 0) (drop (i + 1) tape) l)
 
     pub turn_more : 128 ≤ get_or tape i 0 → get_or tape i 0 < 256 → above value unit (number_from i (drop i tape)) ≡ above (value + (get_or tape i 0 - 128) * unit) (unit * 128) (number_from (i + 1) (drop (i + 1) tape))
@@ -118,28 +116,28 @@ module _ (value unit : ℕ) (u : Units value unit) where
         ap (above value unit) (front ∙ number_more i (get_or tape i 0) (drop (i + 1) tape) l)
         ∙ above_onto (get_or tape i 0 - 128) (number_from (i + 1) (drop (i + 1) tape)) (omega arith)
 
-    pub turn_tenth : 128 ≤ get_or tape i 0 → unit ≡ 2 ^ 63 → above value unit (number_from i (drop i tape)) ≡ NoValue
+    pub turn_tenth : 128 ≤ get_or tape i 0 → unit ≡ 2 ^ 63 → above value unit (number_from i (drop i tape)) ≡ None
     turn_tenth l q =
         ap (above value unit) (front ∙ number_more i (get_or tape i 0) (drop (i + 1) tape) l)
         ∙ above_tenth (get_or tape i 0 - 128) (number_from (i + 1) (drop (i + 1) tape)) q
 
-  pub turn_none : (tape : List ℕ) (i : ℕ) → length tape ≤ i → above value unit (number_from i (drop i tape)) ≡ NoValue
+  pub turn_none : (tape : List ℕ) (i : ℕ) → length tape ≤ i → above value unit (number_from i (drop i tape)) ≡ None
   unfolding above number_from
   turn_none tape i h = rw (drop_of_length-le tape {i = i} h)
 
   -- what the last group makes of the number
-  pub last_zero : (next : ℕ) → unit ≡ 1 → above value unit (Of 0 next) ≡ Of value next
+  pub last_zero : (next : ℕ) → unit ≡ 1 → above value unit (Some (0, next)) ≡ Some (value, next)
   unfolding above
   last_zero next q =
       let l : ltb (0 * unit + value) (2 ^ 64) ≡ true = lt-ltb (0 * unit + value) (2 ^ 64) (omega (arith, u.low)) in
-      rw (le-ltb 1 unit (omega arith), l) (ap (λ (n : ℕ). Of n next) (omega arith))
+      rw (le-ltb 1 unit (omega arith), l) (ap (λ (n : ℕ). Some (n, next)) (omega arith))
 
-  pub last_long : (next : ℕ) → (unit ≡ 1 → ⊥) → above value unit (Of 0 next) ≡ NoValue
+  pub last_long : (next : ℕ) → (unit ≡ 1 → ⊥) → above value unit (Some (0, next)) ≡ None
   unfolding above
   last_long next q = rw (lt-ltb 1 unit (omega (arith, unit_some)))
 
   -- a tenth group above 1 is too large
-  pub last_large : (b next : ℕ) → unit ≡ 2 ^ 63 → 1 < b → above value unit (Of b next) ≡ NoValue
+  pub last_large : (b next : ℕ) → unit ≡ 2 ^ 63 → 1 < b → above value unit (Some (b, next)) ≡ None
   unfolding above
   last_large b next q l =
       let g : b * unit + value ≡ b * 2 ^ 63 + value = rw q in
@@ -156,7 +154,7 @@ module _ (value unit : ℕ) (u : Units value unit) where
           omega (arith, mul-le-mul_right unit one, u.low)
       go false e = omega (arith, unit_small (eqb-false unit (2 ^ 63) e), more_lt b h)
 
-  pub last_good : (b next : ℕ) → (b ≡ 0 → ⊥) → b < 128 → (unit ≡ 2 ^ 63 → b ≤ 1) → above value unit (Of b next) ≡ Of (b * unit + value) next
+  pub last_good : (b next : ℕ) → (b ≡ 0 → ⊥) → b < 128 → (unit ≡ 2 ^ 63 → b ≤ 1) → above value unit (Some (b, next)) ≡ Some (b * unit + value, next)
   unfolding above
   last_good b next z h l = rw (ne_eqb b 0 z, lt-ltb (b * unit + value) (2 ^ 64) (last_room b h l))
 
@@ -165,13 +163,13 @@ pub above_nothing : (at : ℕ) (s : List ℕ) → Bytes s → number_from at s �
 unfolding above
 above_nothing at s good = go (number_from at s) refl
   where
-    go : (v : Value) → number_from at s ≡ v → v ≡ above 0 1 v
-    go NoValue e = refl
-    go (Of n next) e =
+    go : (v : Option (ℕ × ℕ)) → number_from at s ≡ v → v ≡ above 0 1 v
+    go None e = refl
+    go (Some (n, next)) e =
         let f : n < 2 ^ 64 = (number_begins s at n next good e).fits in
         let q : n * 1 + 0 ≡ n = omega arith in
         rw (q, lt-ltb n (2 ^ 64) f) (choose (eqb n 0))
       where
-        choose : (b : Bool) → Of n next ≡ cond (b && false) NoValue (Of n next)
+        choose : (b : Bool) → ◌≡◌ {A = Option (ℕ × ℕ)} (Some (n, next)) (cond (b && false) None (Some (n, next)))
         choose true = refl
         choose false = refl

@@ -39,17 +39,9 @@ pub fn is_bad(event: Event, bytes: &[u8]) -> bool
     ensures { result ≡ not (allowed (meaning_of event bytes.now)) }
 {
     match event {
-        Event::StartArray(_) => false,
-        Event::StartDictionary(_) => false,
-        Event::EndCollection => false,
-        Event::Boolean(_) => false,
-        Event::Data => false,
         Event::Date(bits) => !is_date(bits),
-        Event::Integer(_) => false,
-        Event::Real(_) => false,
-        Event::Nan(_) => false,
         Event::String => !is_utf8(bytes),
-        Event::Uid(_) => false,
+        _ => false,
     }
 }
 
@@ -58,11 +50,8 @@ pub fn put_boolean(tape: &mut [u8], held: usize, value: bool) -> Appended
     ensures result_value { said result ≡ put_of tape.old held (bytes_for (boolean value)) }
     ensures tape_after { tape.new ≡ put_to tape.old held (bytes_for (boolean value)) }
 {
-    if value {
-        unchecked::put_kind(tape, held, 0x02)
-    } else {
-        unchecked::put_kind(tape, held, 0x01)
-    }
+    let kind = if value { 0x02 } else { 0x01 };
+    unchecked::put_kind(tape, held, kind)
 }
 
 // A negative integer n stands as -1 - n.

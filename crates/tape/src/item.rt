@@ -9,9 +9,3 @@ pub struct Item {
     pub length: usize,
     pub next: usize,
 }
-
-#[derive(Clone, Copy)]
-pub enum Step {
-    Item(Item),
-    Bad,
-}

@@ -6,18 +6,14 @@ ghost use Rattle.tape.specs.Kinds.{start_bytes};
 ghost use Rattle.tape.specs.Seven.{seven};
 
 use crate::seven::groups_in;
-use crate::unchecked::lacks_number;
-use event::{Event, Integer, Length};
+use event::{Event, Integer};
 use number::signed::magnitude;
 
 // Whether so many bytes from a place on pass the end. Their sum may pass 2^64.
 pub fn lacks_room(end: usize, at: usize, size: usize) -> bool
     ensures { result ≡ ltb end (at + size) }
 {
-    if end < at {
-        return true;
-    }
-    end - at < size
+    end < at || end - at < size
 }
 
 // Whether an event's bytes do; `bytes` are those of data or text.
@@ -25,27 +21,22 @@ pub fn lacks_event(end: usize, at: usize, event: Event, bytes: &[u8]) -> bool
     ensures { result ≡ ltb end (at + length (bytes_for (meaning_of event bytes.now))) }
 {
     match event {
-        Event::StartArray(length) => lacks_start(end, at, length),
-        Event::StartDictionary(length) => lacks_start(end, at, length),
-        Event::EndCollection => lacks_room(end, at, 1),
-        Event::Boolean(_) => lacks_room(end, at, 1),
-        Event::Data => lacks_bytes(end, at, bytes.len()),
-        Event::Date(_) => lacks_room(end, at, 9),
+        Event::StartArray(length) | Event::StartDictionary(length) => lacks_start(end, at, length),
+        Event::EndCollection | Event::Boolean(_) => lacks_room(end, at, 1),
+        Event::Data | Event::String => lacks_bytes(end, at, bytes.len()),
+        Event::Date(_) | Event::Real(_) | Event::Nan(_) => lacks_room(end, at, 9),
         Event::Integer(value) => lacks_integer(end, at, value),
-        Event::Real(_) => lacks_room(end, at, 9),
-        Event::Nan(_) => lacks_room(end, at, 9),
-        Event::String => lacks_bytes(end, at, bytes.len()),
         Event::Uid(n) => lacks_number(end, at, n),
     }
 }
 
 // The start of an array or of a dictionary: both have as many bytes.
-fn lacks_start(end: usize, at: usize, given: Length) -> bool
+fn lacks_start(end: usize, at: usize, given: Option<u64>) -> bool
     ensures { result ≡ ltb end (at + length (start_bytes 0x0A given)) }
 {
     match given {
-        Length::NotGiven => lacks_room(end, at, 1),
-        Length::Given(n) => lacks_number(end, at, n),
+        None => lacks_room(end, at, 1),
+        Some(n) => lacks_number(end, at, n),
     }
 }
 
@@ -58,13 +49,17 @@ fn lacks_integer(end: usize, at: usize, value: Integer) -> bool
     }
 }
 
+// Whether a kind and a number pass the end. Where the longest number fits, its groups are not counted: some 20 instructions a number less.
+pub(crate) fn lacks_number(end: usize, at: usize, n: u64) -> bool
+    ensures { result ≡ ltb end (at + (1 + length (seven n))) }
+{
+    lacks_room(end, at, 11) && lacks_room(end, at, 1 + groups_in(n))
+}
+
 // A kind, a length and so many bytes.
-fn lacks_bytes(end: usize, at: usize, size: usize) -> bool
+pub(crate) fn lacks_bytes(end: usize, at: usize, size: usize) -> bool
     ensures { result ≡ ltb end (at + (1 + length (seven size) + size)) }
 {
     let head = 1 + groups_in(size as u64);
-    if lacks_room(end, at, head) {
-        return true;
-    }
-    lacks_room(end, at + head, size)
+    lacks_room(end, at, head) || lacks_room(end, at + head, size)
 }

@@ -7,13 +7,7 @@ ghost use Rattle.tape.specs.Seven.{seven};
 pub(crate) fn groups_in(n: u64) -> usize
     ensures { result ≡ length (seven n) }
 {
-    let mut count: usize = 1;
-    let mut left: u64 = n;
-    while 0x80 <= left {
-        left = left / 0x80;
-        count += 1;
-    }
-    count
+    n.max(1).ilog2() as usize / 7 + 1
 }
 
 // Writes a number and answers the place after it.
@@ -22,11 +16,12 @@ pub(crate) fn write_number(tape: &mut [u8], at: usize, n: u64) -> usize
     ensures value { result ≡ at + length (seven n) }
     ensures tape_after { tape.new ≡ sets tape.old at (seven n) }
 {
-    let mut i: usize = at;
-    let mut left: u64 = n;
+    let mut i = at;
+    let mut left = n;
+    // Kept: how often it turns is known only once the number is used up, so no range counts i.
     while 0x80 <= left {
         tape[i] = (left % 0x80 + 0x80) as u8;
-        left = left / 0x80;
+        left /= 0x80;
         i += 1;
     }
     tape[i] = left as u8;

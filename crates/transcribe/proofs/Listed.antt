@@ -2,18 +2,18 @@
 use mathlib.Core.Bool.{Bool, true, false, cond, ◌||◌, true≢false}
 use mathlib.Core.List.{List, [], ◌∷◌, ◌++◌, map}
 use mathlib.Core.Path.{◌≡◌, refl, sym, ap, ◌∙◌}
-use Prim.Native.Nat.{ℕ, zero, suc, ◌+◌, ◌≤◌, ◌<◌}
+use Prim.Native.Nat.{ℕ, zero, suc, ◌+◌, ◌≤◌, ◌<◌, max}
 use native.Mathlib.Numerals.{add-one}
 use native.Mathlib.Omega.{arith}
-use borrow.Author.Tests.{eq-eqb, ne_eqb, eqb-true, eqb-false, ltb-true, ltb-false}
-use lib.Dec.{eqb, ltb}
+use borrow.Author.Tests.{eq-eqb, ne_eqb, eqb-true, eqb-false}
+use lib.Dec.{eqb}
 use lib.ListN.{length, length-set, set, get_or, take}
 use lib.Seq.{map-set_same, take-suc-set, take-set-le, take-take}
 use Rattle.number.specs.Among.{among}
 use Rattle.layout.specs.Frame.{new_frame, no_frame, next_in}
 use Rattle.layout.specs.declared.frame.Frame.{Frame}
 use Rattle.reader.specs.State.{member_of}
-use Rattle.transcribe.specs.Walk.{Below, higher_of}
+use Rattle.transcribe.specs.Walk.{Below}
 
 abbrev pub object_of : Frame → ℕ
 object_of f = f.object
@@ -93,20 +93,10 @@ among_last (x ∷ xs) object n h o = go (eqb n x) refl (λ a. among_last xs obje
     go true e ih = absurd (true≢false (rw e at h))
     go false e ih = rw e (ih (rw e at h))
 
--- the higher of two numbers is at or above both
-higher_bounds : (a b : ℕ) → (a ≤ higher_of a b) × (b ≤ higher_of a b)
-unfolding higher_of
-higher_bounds a b = go (ltb a b) refl
-  where
-    go : (t : Bool) → ltb a b ≡ t → (a ≤ cond (ltb a b) b a) × (b ≤ cond (ltb a b) b a)
-    go true e = rw e (omega (arith, ltb-true a b e), omega arith)
-    go false e = rw e (omega arith, ltb-false a b e)
-
 -- the bound of the open containers' numbers: one is closed, another one opens
 pub close_below : (depth top above : ℕ) (numbers : List ℕ) → top ≤ depth → Below above (take depth numbers) → Below above (take top numbers)
 close_below depth top above numbers le h n g = rw (← take-take top depth numbers le) (among_first top (take depth numbers) n (h n g))
 
-pub enter_below : (depth object above more : ℕ) (numbers : List ℕ) → depth < length numbers → more ≡ higher_of above (object + 1) → Below above (take depth numbers) → Below more (take (depth + 1) (set numbers depth object))
+pub enter_below : (depth object above more : ℕ) (numbers : List ℕ) → depth < length numbers → more ≡ max above (object + 1) → Below above (take depth numbers) → Below more (take (depth + 1) (set numbers depth object))
 enter_below depth object above more numbers g is h n k =
-    let b = higher_bounds above (object + 1) in
-    rw (add-one, take-suc-set numbers depth object g) (among_last (take depth numbers) object n (h n (omega (arith, is, b.0))) (λ e. omega (arith, is, b.1)))
+    rw (add-one, take-suc-set numbers depth object g) (among_last (take depth numbers) object n (h n (omega (arith, is))) (λ e. omega (arith, is)))

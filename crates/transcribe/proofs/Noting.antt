@@ -13,7 +13,7 @@ use Rattle.utf.specs.Changed.{changed_of, changed_to}
 use Rattle.utf.specs.Unicode.{is_utf16, to_utf8}
 use Rattle.utf.specs.declared.changed.Changed.{Changed}
 use Rattle.utf.specs.declared.changed.Changed.TheVariants.{Written, NotText, NoRoom}
-use Rattle.event.specs.Meaning.{Meaning, meaning_of, given_of}
+use Rattle.event.specs.Meaning.{Meaning, meaning_of}
 use Rattle.event.specs.declared.Event.{Event}
 use Rattle.event.specs.declared.Event.TheVariants.{EndCollection}
 use Rattle.number.specs.Part.{part}
@@ -66,7 +66,7 @@ module _ (tape : List ℕ) (held : ℕ) {x : Said} {t : List ℕ} where
   end_put p = put_event tape held (meaning_of EndCollection []) refl p
 
   pub start_put : (shape : Shape) (n : ℕ) → (x ≡ put_of tape held (start_kind shape ∷ seven n)) × (t ≡ put_to tape held (start_kind shape ∷ seven n)) → (x ≡ append_of tape held (meaning_of (start_of shape n) [])) × (t ≡ append_to tape held (meaning_of (start_of shape n) []))
-  unfolding meaning_of given_of bytes_for allowed start_of
+  unfolding meaning_of bytes_for allowed start_of
   start_put array n p = put_event tape held (meaning_of (start_of array n) []) refl p
   start_put dictionary n p = put_event tape held (meaning_of (start_of dictionary n) []) refl p
 

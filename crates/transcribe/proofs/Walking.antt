@@ -88,8 +88,6 @@ pub record Turn : Type 0 where
   pub file : List ℕ
   pub layout : Layout
   pub root : ℕ
-  pub scratch₀ : List ℕ
-  pub tape₀ : List ℕ
   pub left : ℕ
   pub scratch : List ℕ
   pub tape : List ℕ
@@ -105,8 +103,6 @@ pub record Turn : Type 0 where
   pub short : length file ≤ max_length
   pub few : layout.count < 2 ^ 32
   pub some : 0 < left
-  pub same_scratch : length scratch ≡ length scratch₀
-  pub same_tape : length tape ≡ length tape₀
   pub fits : depth ≤ max_open
   pub first : depth ≡ 0 → frames ≡ replicate max_open no_frame
   pub is : left_of file layout root left scratch tape held place depth frames ≡ whole

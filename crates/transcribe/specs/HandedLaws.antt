@@ -1,6 +1,6 @@
 -- What a reader answers, in any state and on any file: the file gives every record that it hands out, and its text is UTF-8 or UTF-16; a
 -- refusal has a step's number, or 17.
-use Rattle.std.specs.Prelude.{Bool, cond, not, ◌&&◌, List, [], ◌∷◌, ◌⊎◌, ℕ, leb, length, drop}
+use Rattle.std.specs.Prelude.{Bool, cond, not, ◌&&◌, List, [], ◌∷◌, ◌⊎◌, ℕ, leb, length, drop, None, Option, Some}
 use Rattle.std.proofs.Math.Bool.{true, false}
 use Rattle.std.proofs.Common.{true≢false, sym, ◌∙◌, arith}
 use Rattle.std.proofs.Math.Logic.{inl, inr}
@@ -9,8 +9,6 @@ use Rattle.std.proofs.Math.Dec.{ltb, eqb}
 use Rattle.number.specs.Among.{among, among_not}
 use Rattle.number.specs.BeLaws.{Bytes}
 use Rattle.number.specs.Width.{width_of}
-use Rattle.number.specs.declared.width.Size.{Size}
-use Rattle.number.specs.declared.width.Size.TheVariants.{Allowed, NotAllowed}
 use Rattle.number.specs.declared.width.Width.{Width}
 use Rattle.utf.specs.Bounds.{Below}
 use Rattle.utf.specs.ChangeLaws.{to_utf8_good}
@@ -114,15 +112,15 @@ module _ (file : List ℕ) where
   follow_right l r (Close offset) h = rw (end_asked_law file offset) tt
   follow_right l r (Member object) h = arrive_right l r object (look_of file l object) (look_right file l object)
 
-  refs_right : (r : Reader) (offsets : Width) (refs : Size) → Handed (with_refs file r offsets refs).answer
+  refs_right : (r : Reader) (offsets : Width) (refs : Option Width) → Handed (with_refs file r offsets refs).answer
   unfolding with_refs step_of source_of
-  refs_right r offsets (Allowed refs) = follow_right _ r _ refl
-  refs_right r offsets NotAllowed = inr refl
+  refs_right r offsets (Some refs) = follow_right _ r _ refl
+  refs_right r offsets None = inr refl
 
-  on_right : (r : Reader) (offsets refs : Size) → Handed (go_on file r offsets refs).answer
+  on_right : (r : Reader) (offsets refs : Option Width) → Handed (go_on file r offsets refs).answer
   unfolding go_on
-  on_right r (Allowed offsets) refs = refs_right r offsets refs
-  on_right r NotAllowed refs = inr refl
+  on_right r (Some offsets) refs = refs_right r offsets refs
+  on_right r None refs = inr refl
 
   begin_right : (r : Reader) (t : Trailer) → Tells file t → Handed (begin file r t).answer
   unfolding begin

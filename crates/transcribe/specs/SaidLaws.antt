@@ -1,13 +1,15 @@
 -- Two endings that say the same are the same, and none says 20.
-use Rattle.std.specs.Prelude.{false, cond, List, ◌≡◌, refl, ℕ, eqb}
+use Rattle.std.specs.Prelude.{Err, false, cond, List, ◌≡◌, refl, ℕ, eqb}
 use Rattle.std.proofs.Common.{sym, ap, ◌∙◌, arith, ne_eqb}
 use Rattle.number.specs.Among.{among, among_not}
 use Rattle.reader.specs.Refusals.{read_refusals, not_step_20, not_step_27}
 use Rattle.reader.specs.Said.{number_of}
 use Rattle.reader.specs.SaidLaws.{refusal_from, again, number_listed}
 use Rattle.reader.specs.declared.refusal.Refusal.{Refusal}
-use Rattle.transcribe.specs.Run.{End, ended, stopped, refused}
-use Rattle.transcribe.specs.Said.{end_said}
+use Rattle.transcribe.specs.Run.{End, ended, stopped, refused, end_of}
+use Rattle.transcribe.specs.Said.{end_said, fail_said, walked_said}
+use Rattle.transcribe.specs.declared.note.Failure.{Failure}
+use Rattle.transcribe.specs.declared.note.Failure.TheVariants as failure
 use Rattle.transcribe.specs.declared.Ending.{Ending}
 use Rattle.transcribe.specs.declared.Ending.TheVariants.{Ended, Stopped, Refused, NoRoomForTape}
 
@@ -39,6 +41,12 @@ ending_again (NoRoomForTape place) = refl
 
 pub end_said_one : (x y : Ending) → end_said x ≡ end_said y → x ≡ y
 end_said_one x y e = sym (ending_again x) ∙ ap ending_from e ∙ ending_again y
+
+-- the ending where an event is not noted
+pub walked_failed : (f : Failure) → walked_said (Err f) ≡ end_of (fail_said f)
+unfolding walked_said fail_said end_of
+walked_failed (failure.Refused r p) = refl
+walked_failed (failure.NoRoomForTape p) = refl
 
 -- 20, an event that the tape doesn't take, is no ending's: not of any file, nor of anything lent
 pub never_bad_event : (x : Ending) (values : List ℕ) (place : ℕ) → end_said x ≡ refused 20 values place → ⊥

@@ -1,5 +1,5 @@
 -- A file walked through from its root on: what is due, and what is known of an event that is noted.
-use Rattle.std.specs.Prelude.{false, cond, List, ◌≡◌, ℕ, ◌≤◌, eqb, ltb, length}
+use Rattle.std.specs.Prelude.{false, cond, List, ◌≡◌, ℕ, ◌≤◌, eqb, length}
 use Rattle.number.specs.Among.{among}
 use Rattle.number.specs.Width.{bytes_in}
 use Rattle.event.specs.declared.Event.{Event}
@@ -23,10 +23,6 @@ due_now file l root depth f s = cond (eqb depth 0) (Member root) (due_in file l 
 -- none of these numbers is at or above a bound
 abbrev pub Below : ℕ → List ℕ → Type 0
 Below above numbers = (n : ℕ) → above ≤ n → among numbers n ≡ false
-
--- the higher of two numbers
-unfoldable pub higher_of : ℕ → ℕ → ℕ
-higher_of a b = cond (ltb a b) b a
 
 -- the reader that has these containers open
 unfoldable pub within : List ℕ → Layout → ℕ → ℕ → List Frame → Reader

@@ -7,9 +7,10 @@ mod walk;
 ghost use Rattle.std.specs.Prelude.{◌≡◌};
 ghost use Rattle.number.specs.BeLaws.{Bytes};
 ghost use Rattle.transcribe.specs.Run.{run, transcript_of};
-ghost use Rattle.transcribe.specs.Said.{end_said};
+ghost use Rattle.transcribe.specs.Said.{end_said, walked_said};
 
-use crate::walk::{refused, walk};
+use crate::note::Failure;
+use crate::walk::{End, walk};
 use layout::trailer::{TrailerRead, trailer_of};
 use reader::refusal::Refusal;
 
@@ -35,15 +36,40 @@ pub fn transcribe(file: &[u8], scratch: &mut [u8], tape: &mut [u8], budget: u64)
     ensures scratch_after { run (end_said result.ending) result.held tape.new scratch.new ≡ transcript_of budget file.now scratch.old tape.old }
     ensures bytes { Bytes file.now }
 {
+    let mut held = 0;
+    let ending = ending_of(read(file, scratch, tape, &mut held, budget));
+    Transcript { ending, held }
+}
+
+// The same behind the bytes that are held.
+fn read(
+    file: &[u8],
+    scratch: &mut [u8],
+    tape: &mut [u8],
+    held: &mut usize,
+    budget: u64,
+) -> Result<End, Failure>
+    requires { held.old ≡ 0 }
+    ensures { run (walked_said result) held.new tape.new scratch.new ≡ transcript_of budget file.now scratch.old tape.old }
+{
     if budget == 0 {
-        return Transcript {
-            ending: Ending::Stopped,
-            held: 0,
-        };
+        return Ok(End::Stopped);
     }
     match trailer_of(file) {
-        TrailerRead::Keeps(refusal, place) => refused(Refusal::File(refusal), place, 0),
-        TrailerRead::Ends(refusal, place) => refused(Refusal::File(refusal), place, 0),
-        TrailerRead::Lays(layout, root) => walk(file, scratch, tape, budget, layout, root),
+        TrailerRead::Keeps(refusal, place) => Err(Failure::Refused(Refusal::File(refusal), place)),
+        TrailerRead::Ends(refusal, place) => Err(Failure::Refused(Refusal::File(refusal), place)),
+        TrailerRead::Lays(layout, root) => walk(file, scratch, tape, held, budget, layout, root),
+    }
+}
+
+#[tactic(auto, unfolding(crate::specs::Said::end_said, crate::specs::Said::walked_said))]
+fn ending_of(walked: Result<End, Failure>) -> Ending
+    ensures { end_said result ≡ walked_said walked }
+{
+    match walked {
+        Ok(End::Ended) => Ending::Ended,
+        Ok(End::Stopped) => Ending::Stopped,
+        Err(Failure::Refused(refusal, place)) => Ending::Refused(refusal, place),
+        Err(Failure::NoRoomForTape(place)) => Ending::NoRoomForTape(place),
     }
 }

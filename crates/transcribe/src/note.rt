@@ -29,15 +29,8 @@ pub enum Failure {
     NoRoomForTape(u64),
 }
 
-// What noting one event answers: how many bytes are held then, or why nothing is.
-#[derive(Clone, Copy)]
-pub enum NoteAnswer {
-    Held(usize),
-    Fails(Failure),
-}
-
 // One event of the file behind what is held, with its bytes, which stand where the reader found them: they are not sought again, and
-// not checked; text in UTF-16 is measured as it is changed.
+// not checked; text in UTF-16 is measured as it is changed. This and the functions below answer how many bytes are held then.
 pub(crate) fn note(
     file: &[u8],
     scratch: &mut [u8],
@@ -46,7 +39,7 @@ pub(crate) fn note(
     event: Event,
     span: Span,
     offset: u64,
-) -> NoteAnswer
+) -> Result<usize, Failure>
     requires { Notable file.now event span offset }
     ensures { noting (note_said result) tape.new scratch.new ≡ note_of file.now scratch.old tape.old held event offset }
 {
@@ -69,12 +62,9 @@ pub(crate) fn note(
                     let kind = bytes_kind(event);
                     noted(unchecked::put_bytes(tape, held, kind, &scratch[..n]), held)
                 }
-                Changed::NoRoom => NoteAnswer::Fails(Failure::Refused(
-                    Refusal::NoRoomForText,
-                    offset,
-                )),
+                Changed::NoRoom => Err(Failure::Refused(Refusal::NoRoomForText, offset)),
                 // What was read as UTF-16 is UTF-16.
-                Changed::NotText => NoteAnswer::Fails(Failure::Refused(Refusal::WrongFile, 0)),
+                Changed::NotText => Err(Failure::Refused(Refusal::WrongFile, 0)),
             }
         }
     }
@@ -93,7 +83,12 @@ fn bytes_kind(event: Event) -> u8
 
 // A container's start, with its length. It and the end go to the tape by themselves, without a choice among all events: some 35
 // instructions less for each.
-pub(crate) fn note_start(tape: &mut [u8], held: usize, shape: Shape, length: u64) -> NoteAnswer
+pub(crate) fn note_start(
+    tape: &mut [u8],
+    held: usize,
+    shape: Shape,
+    length: u64,
+) -> Result<usize, Failure>
     ensures result_value { note_said result ≡ from_tape (append_of tape.old held (meaning_of (start_of (shape_said shape) length) [])) }
     ensures tape_after { tape.new ≡ append_to tape.old held (meaning_of (start_of (shape_said shape) length) []) }
 {
@@ -104,7 +99,7 @@ pub(crate) fn note_start(tape: &mut [u8], held: usize, shape: Shape, length: u64
 }
 
 // A container's end.
-pub(crate) fn note_end(tape: &mut [u8], held: usize) -> NoteAnswer
+pub(crate) fn note_end(tape: &mut [u8], held: usize) -> Result<usize, Failure>
     ensures result_value { note_said result ≡ from_tape (append_of tape.old held (meaning_of EndCollection [])) }
     ensures tape_after { tape.new ≡ append_to tape.old held (meaning_of EndCollection []) }
 {
@@ -112,7 +107,7 @@ pub(crate) fn note_end(tape: &mut [u8], held: usize) -> NoteAnswer
 }
 
 // An event without bytes.
-fn note_plain(tape: &mut [u8], held: usize, event: Event) -> NoteAnswer
+fn note_plain(tape: &mut [u8], held: usize, event: Event) -> Result<usize, Failure>
     requires { Bare event }
     ensures result_value { note_said result ≡ from_tape (append_of tape.old held (meaning_of event [])) }
     ensures tape_after { tape.new ≡ append_to tape.old held (meaning_of event []) }
@@ -138,12 +133,12 @@ fn put_plain(tape: &mut [u8], held: usize, event: Event) -> Appended
 }
 
 // What the tape answers is the note's answer. It is asked to check nothing here, so all it refuses is what doesn't fit.
-fn noted(appended: Appended, held: usize) -> NoteAnswer
+fn noted(appended: Appended, held: usize) -> Result<usize, Failure>
     requires { Unchecked held (said appended) }
     ensures { note_said result ≡ from_tape (said appended) }
 {
     let Appended::Held(n) = appended else {
-        return NoteAnswer::Fails(Failure::NoRoomForTape(held as u64));
+        return Err(Failure::NoRoomForTape(held as u64));
     };
-    NoteAnswer::Held(n)
+    Ok(n)
 }

@@ -1,17 +1,15 @@
 // The walk through a file: its events from the root on, each noted on the tape.
-ghost use Rattle.std.specs.Prelude.{◌≡◌, ◌≤◌, ◌-◌, length};
+ghost use Rattle.std.specs.Prelude.{◌≡◌, ◌≤◌, length};
 ghost use Rattle.number.specs.Among.{among};
 ghost use Rattle.layout.specs.Layout.{look_of};
 ghost use Rattle.reader.specs.Machine.{arrive};
 ghost use Rattle.reader.specs.Next.{laid_out};
-ghost use Rattle.reader.specs.Said.{number_of, values_of};
 ghost use Rattle.reader.specs.State.{max_length};
-ghost use Rattle.transcribe.specs.Run.{run, refused as refused_end, end_of, finished_of, onward};
-ghost use Rattle.transcribe.specs.Said.{fail_said, end_said};
-ghost use Rattle.transcribe.specs.Walk.{Below, higher_of, due_now};
+ghost use Rattle.transcribe.specs.Run.{run, finished_of, onward};
+ghost use Rattle.transcribe.specs.Said.{walked_said};
+ghost use Rattle.transcribe.specs.Walk.{Below, due_now};
 
-use crate::note::{Failure, NoteAnswer, note, note_end, note_start};
-use crate::{Ending, Transcript};
+use crate::note::{Failure, note, note_end, note_start};
 use layout::frame::Frame;
 use layout::layout::{Due, Layout, Standing, due_in, stands_in};
 use layout::lookup::{Look, look_up};
@@ -20,18 +18,26 @@ use reader::opened::is_among;
 use reader::refusal::Refusal;
 use reader::state::Reader;
 
-// The events from the root on. The open containers stay in this function's own memory and change there: a reader that goes by value is
-// copied whole at every call, and that would be half of the work.
+// How a walk ends that nothing stops early: at the file's end, or with the budget used up.
+#[derive(Clone, Copy)]
+pub(crate) enum End {
+    Ended,
+    Stopped,
+}
+
+// The events from the root on, behind the bytes that are held. The open containers stay in this function's own memory and change there: a reader
+// that goes by value is copied whole at every call, and that would be half of the work.
 pub(crate) fn walk(
     file: &[u8],
     scratch: &mut [u8],
     tape: &mut [u8],
+    held: &mut usize,
     budget: u64,
     layout: Layout,
     root: u64,
-) -> Transcript
+) -> Result<End, Failure>
     requires { length file.now ≤ max_length }
-    ensures { run (end_said result.ending) result.held tape.new scratch.new ≡ onward budget file.now scratch.old tape.old 0 (arrive (laid_out file.now layout) root (look_of file.now layout root)) }
+    ensures { run (walked_said result) held.new tape.new scratch.new ≡ onward budget file.now scratch.old tape.old held.old (arrive (laid_out file.now layout) root (look_of file.now layout root)) }
 {
     let mut frames = [Frame::NONE; Reader::MAX_OPEN];
     // their numbers once more, to be lent and searched: a slice of frames can't be lent, and a copy of them would cost 100 instructions
@@ -41,96 +47,69 @@ pub(crate) fn walk(
     let mut above: u64 = 0;
     let mut depth: usize = 0;
     let mut place = layout.table as u64;
-    let mut held: usize = 0;
-    let mut left = budget;
     // the innermost open container, looked at once and not again for each of its references
     let mut standing = Standing::NOWHERE;
-    while 0 < left {
-        left -= 1;
-        let top = innermost(depth);
+    for left in (0..budget).rev() {
+        // where the innermost open container stands; with none open, where the first one will
+        let top = depth.saturating_sub(1);
         match due_now(file, layout, root, depth, frames[top], standing) {
             Due::Wrong => {
-                return refused(Refusal::WrongFile, 0, held);
+                return Err(Failure::Refused(Refusal::WrongFile, 0));
             }
-            Due::Close(_) => match note_end(tape, held) {
-                NoteAnswer::Fails(failure) => {
-                    return failed(failure, held);
+            Due::Close(_) => {
+                *held = note_end(tape, *held)?;
+                if top == 0 {
+                    return Ok(finished(left));
                 }
-                NoteAnswer::Held(n) => {
-                    if top == 0 {
-                        return finished(left, n);
-                    }
-                    frames[top] = Frame::NONE;
-                    depth = top;
-                    standing = stands_in(file, layout, frames[top - 1]);
-                    held = n;
-                    continue;
-                }
-            },
+                frames[top] = Frame::NONE;
+                depth = top;
+                standing = stands_in(file, layout, frames[top - 1]);
+            }
             Due::Member(object) => match look_up(file, layout, object, place) {
                 Look::Missing => {
-                    return refused(Refusal::WrongFile, 0, held);
+                    return Err(Failure::Refused(Refusal::WrongFile, 0));
                 }
                 Look::Refused(refusal, refused_at) => {
-                    return refused(Refusal::File(refusal), refused_at, held);
+                    return Err(Failure::Refused(Refusal::File(refusal), refused_at));
                 }
-                Look::Scalar(event, span, offset) => match note(
-                    file, scratch, tape, held, event, span, offset,
-                ) {
-                    NoteAnswer::Fails(failure) => {
-                        return failed(failure, held);
+                Look::Scalar(event, span, offset) => {
+                    *held = note(file, scratch, tape, *held, event, span, offset)?;
+                    if depth == 0 {
+                        return Ok(finished(left));
                     }
-                    NoteAnswer::Held(n) => {
-                        if depth == 0 {
-                            return finished(left, n);
-                        }
-                        frames[top].position = frames[top].position + 1;
-                        place = offset;
-                        held = n;
-                        continue;
-                    }
-                },
+                    frames[top].position += 1;
+                    place = offset;
+                }
                 Look::Container(shape, length, offset) => {
                     let number = object as u32;
                     if is_known(&numbers[..depth], above, number) {
-                        return refused(Refusal::RecursiveObject, offset, held);
+                        return Err(Failure::Refused(Refusal::RecursiveObject, offset));
                     }
                     if Reader::MAX_OPEN <= depth {
-                        return refused(Refusal::TooDeep, offset, held);
+                        return Err(Failure::Refused(Refusal::TooDeep, offset));
                     }
-                    match note_start(tape, held, shape, length) {
-                        NoteAnswer::Fails(failure) => {
-                            return failed(failure, held);
-                        }
-                        NoteAnswer::Held(n) => {
-                            // With nothing open the first frame is written over at once.
-                            frames[top].position = frames[top].position + 1;
-                            numbers[depth] = number;
-                            frames[depth] = Frame {
-                                object: number,
-                                position: 0,
-                                length: length as u32,
-                                offset: offset as u32,
-                            };
-                            depth += 1;
-                            standing = Standing {
-                                offset,
-                                container: container_at(file, offset as usize),
-                            };
-                            above = higher(above, object + 1);
-                            place = offset;
-                            held = n;
-                            continue;
-                        }
-                    }
+                    *held = note_start(tape, *held, shape, length)?;
+                    // With nothing open the first frame is written over at once.
+                    frames[top].position += 1;
+                    numbers[depth] = number;
+                    frames[depth] = Frame {
+                        object: number,
+                        position: 0,
+                        length: length as u32,
+                        offset: offset as u32,
+                    };
+                    depth += 1;
+                    standing = Standing {
+                        offset,
+                        container: container_at(file, offset as usize),
+                    };
+                    above = above.max(object + 1);
+                    place = offset;
                 }
             },
         }
     }
-    Transcript {
-        ending: Ending::Stopped,
-        held,
-    }
+    Ok(End::Stopped)
 }
 
 // Whether a number is among others, which are all below a bound.
@@ -142,23 +121,6 @@ fn is_known(numbers: &[u32], above: u64, number: u32) -> bool
         return false;
     }
     is_among(numbers, number)
-}
-
-// The higher of two numbers.
-fn higher(a: u64, b: u64) -> u64
-    ensures { result ≡ higher_of a b }
-{
-    if a < b { b } else { a }
-}
-
-// Where the innermost open container stands; with none open, where the first one will.
-fn innermost(depth: usize) -> usize
-    ensures { result ≡ depth - 1 }
-{
-    if depth == 0 {
-        return 0;
-    }
-    depth - 1
 }
 
 // What is due: the root where nothing is open yet, else what the innermost container says.
@@ -179,43 +141,12 @@ fn due_now(
 }
 
 // Nothing is open any more: the end, unless the budget is used up.
-fn finished(left: u64, held: usize) -> Transcript
-    ensures ending_value { end_said result.ending ≡ finished_of left }
-    ensures held_value { result.held ≡ held }
+#[tactic(auto, unfolding(crate::specs::Said::walked_said, crate::specs::Run::finished_of))]
+fn finished(left: u64) -> End
+    ensures { walked_said (Ok result) ≡ finished_of left }
 {
     if left == 0 {
-        return Transcript {
-            ending: Ending::Stopped,
-            held,
-        };
+        return End::Stopped;
     }
-    Transcript {
-        ending: Ending::Ended,
-        held,
-    }
-}
-
-// A refusal ends it.
-pub(crate) fn refused(refusal: Refusal, place: u64, held: usize) -> Transcript
-    ensures ending_value { end_said result.ending ≡ refused_end (number_of refusal) (values_of refusal) place }
-    ensures held_value { result.held ≡ held }
-{
-    Transcript {
-        ending: Ending::Refused(refusal, place),
-        held,
-    }
-}
-
-// An event that is not noted ends the transcript.
-fn failed(failure: Failure, held: usize) -> Transcript
-    ensures ending_value { end_said result.ending ≡ end_of (fail_said failure) }
-    ensures held_value { result.held ≡ held }
-{
-    match failure {
-        Failure::Refused(refusal, place) => refused(refusal, place, held),
-        Failure::NoRoomForTape(place) => Transcript {
-            ending: Ending::NoRoomForTape(place),
-            held,
-        },
-    }
+    End::Ended
 }

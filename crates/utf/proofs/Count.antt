@@ -1,4 +1,5 @@
 -- The walk that counts: what is left of the bytes decides.
+use Rattle.std.specs.Prelude.{None, Option, Some}
 use mathlib.Core.Path.{◌≡◌, refl, sym, ap, ◌∙◌}
 use mathlib.Core.Logic.{◌⊎◌, inl, inr, ⊎_elim}
 use mathlib.Core.Bool.{Bool, true, false, cond, ◌&&◌}
@@ -12,13 +13,11 @@ use Rattle.utf.specs.Utf16.{utf8_length_of}
 use Rattle.utf.specs.Utf16At.{UnitAt}
 use Rattle.utf.specs.Utf16Laws.{pair_of, is_high_law, is_low_law, no_high, no_low, paired_plain, paired_low, paired_high, paired_next, scalars_plain, scalars_pair}
 use Rattle.utf.specs.ScalarLaws.{length_utf8, utf8_four}
-use Rattle.utf.specs.declared.utf16.Utf8Length.{Utf8Length}
-use Rattle.utf.specs.declared.utf16.Utf8Length.TheVariants.{Bytes, NotUtf16}
 use Rattle.utf.proofs.Units.{short_units, odd_one}
 
 -- the answer where n bytes are counted and s is what is left
-unfoldable pub length_from : ℕ → List ℕ → Utf8Length
-length_from n s = cond (is_utf16 s) (Bytes (n + length (to_utf8 s))) NotUtf16
+unfoldable pub length_from : ℕ → List ℕ → Option ℕ
+length_from n s = cond (is_utf16 s) (Some (n + length (to_utf8 s))) None
 
 -- at the start nothing is counted
 pub length_start : (s : List ℕ) → utf8_length_of s ≡ length_from 0 s
@@ -26,15 +25,15 @@ unfolding utf8_length_of length_from
 length_start s = rw zero-add
 
 -- what is left decides, by its units
-on_units : ℕ → Bool → List ℕ → Utf8Length
-on_units n e us = cond (e && paired us) (Bytes (n + length (utf8 (scalars16 us)))) NotUtf16
+on_units : ℕ → Bool → List ℕ → Option ℕ
+on_units n e us = cond (e && paired us) (Some (n + length (utf8 (scalars16 us)))) None
 
 by_units : (n : ℕ) (s : List ℕ) → length_from n s ≡ on_units n (is_even s) (units_of s)
 unfolding length_from on_units is_utf16 to_utf8
 by_units n s = refl
 
 -- nothing is measured where surrogates stand alone
-none : (n : ℕ) (e : Bool) (us : List ℕ) → paired us ≡ false → on_units n e us ≡ NotUtf16
+none : (n : ℕ) (e : Bool) (us : List ℕ) → paired us ≡ false → on_units n e us ≡ None
 unfolding on_units
 none n true us p = rw p
 none n false us p = refl
@@ -46,12 +45,12 @@ more n v e us ws p q = rw (p, q, length_utf8, add_assoc)
 
 module _ (s : List ℕ) (i n : ℕ) where
   -- nothing is left
-  pub count_end : length s ≡ i → length_from n (drop i s) ≡ Bytes n
+  pub count_end : length s ≡ i → length_from n (drop i s) ≡ Some n
   unfolding length_from is_utf16 is_even paired units_of to_utf8 utf8 scalars16
-  count_end h = rw (drop_of_length-le s {i = i} (omega arith)) (ap Bytes (add-zero n))
+  count_end h = rw (drop_of_length-le s {i = i} (omega arith)) (ap Some (add-zero n))
 
   -- a byte alone is left
-  pub count_odd : (length s ≡ i → ⊥) → length s - i < 2 → i ≤ length s → length_from n (drop i s) ≡ NotUtf16
+  pub count_odd : (length s ≡ i → ⊥) → length s - i < 2 → i ≤ length s → length_from n (drop i s) ≡ None
   unfolding on_units
   count_odd h k le = by_units n (drop i s) ∙ rw (odd_one (drop i s) (rw length-drop (omega arith)))
 
@@ -70,19 +69,19 @@ module _ (s : List ℕ) (i n : ℕ) where
         ∙ sym (by_units (n + length (utf8_of u)) (drop (i + 2) s))
 
     -- a low surrogate first
-    pub count_low : 0xDC00 ≤ u → u < 0xE000 → length_from n (drop i s) ≡ NotUtf16
+    pub count_low : 0xDC00 ≤ u → u < 0xE000 → length_from n (drop i s) ≡ None
     count_low h k = units ∙ none n (is_even (drop (i + 2) s)) _ (paired_low u (no_high u (inr (omega arith))) (is_low_law u h (omega arith)) (units_of (drop (i + 2) s)))
 
     module _ (h : 0xD800 ≤ u) (k : u < 0xDC00) where
       -- a high surrogate last
-      pub count_high : length s - (i + 2) < 2 → length_from n (drop i s) ≡ NotUtf16
+      pub count_high : length s - (i + 2) < 2 → length_from n (drop i s) ≡ None
       count_high l =
           let e : units_of (drop (i + 2) s) ≡ [] = short_units (drop (i + 2) s) (rw length-drop l) in
           units ∙ rw e (none n (is_even (drop (i + 2) s)) (u ∷ []) (paired_high u (is_high_law u h (omega arith))))
 
       module _ (v : ℕ) (b : UnitAt s (i + 2) v) where
         -- a high surrogate that no low one follows
-        pub count_alone : (v < 0xDC00) ⊎ (0xE000 ≤ v) → length_from n (drop i s) ≡ NotUtf16
+        pub count_alone : (v < 0xDC00) ⊎ (0xE000 ≤ v) → length_from n (drop i s) ≡ None
         count_alone l =
             units
             ∙ rw b.units

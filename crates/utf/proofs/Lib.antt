@@ -1,3 +1,4 @@
+pub mod Runs
 pub mod Units
 pub mod Count
 pub mod Scalars

@@ -4,15 +4,15 @@ use mathlib.Core.Logic.{◌⊎◌}
 use mathlib.Core.Bool.{Bool, true, false, false≢true, true≢false}
 use mathlib.Core.List.{List, [], ◌∷◌}
 use Prim.Native.Nat.{ℕ, ◌+◌, ◌-◌, ◌≤◌, ◌<◌}
-use native.Mathlib.Decide.{dec_lt}
 use native.Mathlib.Omega.{arith}
-use lib.Dec.{ltb}
-use lib.ListN.{length, drop, length-drop}
+use lib.Dec.{ltb, eqb}
+use lib.ListN.{length, take, drop, length-drop}
 use borrow.Author.Tests.{ltb-true, ltb-false}
-use Rattle.utf.specs.Unicode.{utf8, is_high, is_low, paired, scalars16, units_of, is_even, is_utf16, to_utf8}
-use Rattle.utf.specs.Utf16At.{UnitAt, Front, ScalarAt}
+use Rattle.utf.specs.Unicode.{is_scalar, utf8, is_high, is_low, paired, scalars16, units_of, is_even, is_utf16, to_utf8}
+use Rattle.utf.specs.Utf16At.{UnitAt, Front, ScalarAt, NextScalar}
 use Rattle.utf.specs.Tests.{and_left, and_right}
 use Rattle.utf.specs.Utf16Laws.{pair_of, is_high_law, good_even, good_paired, low_is, no_high, pair_scalar, plain_scalar, paired_plain, paired_low, paired_high, paired_next, scalars_plain, scalars_pair}
+use Rattle.utf.proofs.Runs.{slice_from}
 use Rattle.utf.proofs.Units.{short_units}
 
 -- an even number of bytes that is not 0 is at least 2
@@ -26,6 +26,11 @@ even_two (a ∷ b ∷ t) e h = omega arith
 front : (s : List ℕ) (i v j : ℕ) → j ≤ length s → is_even (drop j s) ≡ true → paired (units_of (drop j s)) ≡ true → scalars16 (units_of (drop i s)) ≡ v ∷ scalars16 (units_of (drop j s)) → Front s i v j
 unfolding is_utf16 to_utf8 utf8
 front s i v j h e p q = record { inside = h; good = rw (e, p); bytes = rw q }
+
+-- bytes that are not none
+pub some_bytes : (s : List ℕ) → eqb (length s) 0 ≡ false → 0 < length s
+some_bytes [] e = absurd (true≢false e)
+some_bytes (b ∷ s) e = omega arith
 
 module _ (s : List ℕ) (i : ℕ) (g : is_utf16 (drop i s) ≡ true) (more : i < length s) where
   -- there is a unit
@@ -91,10 +96,8 @@ module _ (s : List ℕ) (i : ℕ) (g : is_utf16 (drop i s) ≡ true) (more : i <
               two = λ l. rw (← e) (front s i (pair_of u v) (i + 2 + 2) next_room (sym b.even ∙ even) p q);
             }
 
--- whichever it is, the text goes on after the scalar value
-pub front_at : (s : List ℕ) (i v : ℕ) → ScalarAt s i v → (j : ℕ) × Front s i v j
-front_at s i v a =
-    elim (dec_lt v 0x10000) [
-      | yes p ↦ (i + 2, a.one p)
-      | no q ↦ (i + 4, a.two (let h : 0x10000 ≤ v = omega arith in h))
-    ]
+-- the scalar value in front, and what is left behind the j bytes that it has
+pub front_next : (s : List ℕ) (v j : ℕ) → is_scalar v ≡ true → 0 < j → Front s 0 v j → NextScalar s v (take (length s - j) (drop j s))
+front_next s v j e h f =
+    rw slice_from
+    (record { scalar = e; shorter = omega (arith, f.inside, length-drop j s); good = f.good; bytes = f.bytes })

@@ -1,5 +1,5 @@
 -- Runs of ASCII: how long the one at the start is, a place within a run, and eight bytes as one number.
-use Rattle.std.specs.Prelude.{cond, List, [], ◌∷◌, ℕ, zero, suc, ◌+◌, ◌*◌, ◌≤◌, ltb, drop}
+use Rattle.std.specs.Prelude.{cond, List, [], ◌∷◌, ℕ, zero, suc, ◌≡◌, ◌+◌, ◌*◌, ◌≤◌, ltb, drop}
 
 -- how many bytes at the start are ASCII
 unfoldable pub ascii_run : List ℕ → ℕ
@@ -19,3 +19,7 @@ little_of (b ∷ s) = little_of s * 256 + b
 unfoldable pub tops_of : ℕ → ℕ
 tops_of zero = 0
 tops_of (suc n) = tops_of n * 256 + 0x80
+
+-- what is left behind a part of the run of ASCII at the start, or behind all of it
+abbrev pub BehindRun : List ℕ → List ℕ → Type 0
+BehindRun s rest = (n : ℕ) × (n ≤ ascii_run s) × (rest ≡ drop n s)

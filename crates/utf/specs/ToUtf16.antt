@@ -1,12 +1,10 @@
 -- What the functions that change UTF-8 to UTF-16 answer.
-use Rattle.std.specs.Prelude.{cond, List, [], ◌∷◌, ℕ, ◌+◌, ltb, length}
+use Rattle.std.specs.Prelude.{cond, List, [], ◌∷◌, ℕ, ◌+◌, ltb, length, None, Option, Some}
 use Rattle.utf.specs.Unicode.{utf16, is_utf8, scalars8}
-use Rattle.utf.specs.declared.to_utf16.Units.{Units}
-use Rattle.utf.specs.declared.to_utf16.Units.TheVariants.{Count, NotUtf8}
 
 -- how many units well-formed UTF-8 has in UTF-16
-unfoldable pub utf16_units_of : List ℕ → Units
-utf16_units_of s = cond (is_utf8 s) (Count (length (utf16 (scalars8 s)))) NotUtf8
+unfoldable pub utf16_units_of : List ℕ → Option ℕ
+utf16_units_of s = cond (is_utf8 s) (Some (length (utf16 (scalars8 s)))) None
 
 -- how many units a byte adds: a first byte one, or two where three more follow it; a later byte none
 unfoldable pub units_from : ℕ → ℕ

@@ -1,7 +1,8 @@
 -- Units counted by bytes, and the text of UTF-8 one scalar value at a time.
-use Rattle.std.specs.Prelude.{Bool, true, false, cond, ◌≡◌, refl, List, [], ◌∷◌, ◌++◌, ℕ, zero, suc, ◌+◌, ◌-◌, ◌*◌, ◌/◌, ◌%◌, ◌≤◌, ◌<◌, ltb, eqb, length, drop}
-use Rattle.std.proofs.Common.{sym, ap, ◌∙◌, add_assoc, zero-add, lit≤, length-append, drop_of_length-le, lt-ltb, le-ltb}
+use Rattle.std.specs.Prelude.{Bool, true, false, cond, ◌≡◌, refl, List, [], ◌∷◌, ◌++◌, ℕ, zero, suc, ◌+◌, ◌-◌, ◌*◌, ◌/◌, ◌%◌, ◌≤◌, ◌<◌, ltb, eqb, length, take, drop}
+use Rattle.std.proofs.Common.{sym, ap, ◌∙◌, add_assoc, zero-add, lit≤, length-append, drop_of_length-le, lt-ltb, le-ltb, get_or-take, length-take-le, inl, inr}
 use Rattle.std.proofs.Math.Decide.{dec_lt}
+use Rattle.std.proofs.lemmas.Bool.Decides.{eqb_tells}
 use native.Mathlib.Omega.{arith}
 use Rattle.std.proofs.Math.ListN.{get_or, length-drop}
 use Rattle.utf.specs.Left.{left_at}
@@ -197,6 +198,12 @@ module _ (s : List ℕ) (i : ℕ) (more : i < length s) where
             }
       ]
 
+-- the value of the sequence in front, and what is left behind it
+pub record NextValue (s : List ℕ) (v : ℕ) (rest : List ℕ) : Type 0 where
+  pub value : scalars8 s ≡ v ∷ scalars8 rest
+  pub shorter : length rest < length s
+  pub small : v < 0x500000
+
 -- a value in front: its units, and those of what is left
 module _ (a b : List ℕ) (v : ℕ) (e : scalars8 a ≡ v ∷ scalars8 b) where
   pub text_next : to_utf16 a ≡ unit_bytes (utf16_of v) ++ to_utf16 b
@@ -256,3 +263,40 @@ units_left (suc (suc k)) v (b ∷ s) = rw (scalars_next k v b s) (omega (arith, 
 pub units_few : (s : List ℕ) → length (utf16 (scalars8 s)) ≤ length s
 unfolding scalars8
 units_few s = omega (arith, units_left 0 0 s)
+
+-- The sequence in front.
+
+-- its bytes tell its value
+value_take : (s : List ℕ) (n : ℕ) → 0 < n → value_at (take n s) 0 n ≡ value_at s 0 n
+unfolding value_at
+value_take s n h =
+    elim (eqb_tells n 2) [
+      | inl e ↦ rw e.1 (rw (get_or-take 2 s 0 0 (omega arith), get_or-take 2 s 1 0 (omega arith)))
+      | inr p ↦
+          elim (eqb_tells n 3) [
+            | inl e ↦ rw e.1 (rw (get_or-take 3 s 0 0 (omega arith), get_or-take 3 s 1 0 (omega arith), get_or-take 3 s 2 0 (omega arith)))
+            | inr q ↦
+                elim (eqb_tells n 4) [
+                  | inl e ↦ rw e.1 (rw (get_or-take 4 s 0 0 (omega arith), get_or-take 4 s 1 0 (omega arith), get_or-take 4 s 2 0 (omega arith), get_or-take 4 s 3 0 (omega arith)))
+                  | inr r ↦ rw (p.0, q.0, r.0) (get_or-take n s 0 0 h)
+                ]
+          ]
+    ]
+
+-- no bytes have no value
+pub no_value : (s : List ℕ) → length s < 1 → scalars8 s ≡ []
+no_value s h = past_end s 0 (omega arith)
+
+-- the sequence of a first byte, by how many bytes it has: all are there, or not
+module _ (s : List ℕ) (more : 0 < length s) (n : ℕ) (e : n ≡ followers (get_or s 0 0) + 1) where
+  front : Sequence s 0 n
+  front = rw e (sequence s 0 more)
+
+  pub next_whole : n ≤ length s → (v : ℕ) → v ≡ value_at (take n s) 0 (length (take n s)) → v < 0x500000 → NextValue s v (drop n s)
+  next_whole h v q b =
+      let size : length (take n s) ≡ n = length-take-le n s h in
+      let is : v ≡ value_at s 0 n = rw size at q ∙ value_take s n front.some in
+      record { value = rw is (rw zero-add at (front.whole (omega arith))); shorter = omega (arith, front.some, length-drop n s); small = b }
+
+  pub next_cut : length s < n → scalars8 s ≡ []
+  next_cut h = front.cut (omega arith)

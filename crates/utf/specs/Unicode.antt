@@ -1,6 +1,5 @@
 -- UTF-8 and UTF-16 as the Unicode Standard has them (chapter 3, table 3-7, D76, D91, D92), on lists of numbers.
-use Rattle.std.specs.Prelude.{Bool, true, false, not, cond, ◌&&◌, ◌||◌, List, [], ◌∷◌, ◌++◌, ℕ, zero, suc, ◌+◌, ◌-◌, ◌*◌, ◌/◌, ◌%◌, ltb, leb}
-use Rattle.std.proofs.Math.Option.{Option, none, some}
+use Rattle.std.specs.Prelude.{Bool, true, false, not, cond, ◌&&◌, ◌||◌, List, [], ◌∷◌, ◌++◌, ℕ, zero, suc, ◌+◌, ◌-◌, ◌*◌, ◌/◌, ◌%◌, ltb, leb, None, Option, Some}
 
 -- D76: "Scalar values are 0 to D7FF and E000 to 10FFFF"
 unfoldable pub is_scalar : ℕ → Bool
@@ -55,14 +54,14 @@ within (low to high) b = leb low b && leb b high
 
 -- the ranges that follow a first byte: those of the row in whose first range it lies
 unfoldable pub row_of : List (List Range) → ℕ → Option (List Range)
-row_of [] b = none
+row_of [] b = None
 row_of ([] ∷ rows) b = row_of rows b
-row_of ((r ∷ rs) ∷ rows) b = cond (within r b) (some rs) (row_of rows b)
+row_of ((r ∷ rs) ∷ rows) b = cond (within r b) (Some rs) (row_of rows b)
 
 -- bytes that begin inside a sequence, whose remaining ranges are given, and are well formed from there on
 unfoldable pub well_formed : List Range → List ℕ → Bool
 well_formed [] [] = true
-well_formed [] (b ∷ bs) = elim (row_of table b) [ none ↦ false | some rs ↦ well_formed rs bs ]
+well_formed [] (b ∷ bs) = elim (row_of table b) [ None ↦ false | Some rs ↦ well_formed rs bs ]
 well_formed (r ∷ rs) [] = false
 well_formed (r ∷ rs) (b ∷ bs) = within r b && well_formed rs bs
 

@@ -19,3 +19,10 @@ pub record ScalarAt (s : List ℕ) (i v : ℕ) : Type 0 where
   pub scalar : is_scalar v ≡ true
   pub one : v < 0x10000 → Front s i v (i + 2)
   pub two : 0x10000 ≤ v → Front s i v (i + 4)
+
+-- the scalar value v is in front of well-formed text, and the rest is left behind it
+pub record NextScalar (s : List ℕ) (v : ℕ) (rest : List ℕ) : Type 0 where
+  pub scalar : is_scalar v ≡ true
+  pub shorter : length rest < length s
+  pub good : is_utf16 rest ≡ true
+  pub bytes : to_utf8 s ≡ utf8_of v ++ to_utf8 rest

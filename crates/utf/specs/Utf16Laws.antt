@@ -1,7 +1,7 @@
 -- Laws of UTF-16: what one scalar value in front does, and that scalar values and well-formed units are each other's.
 use Rattle.std.proofs.Math.Path.{◌≡◌, refl}
 use Rattle.std.proofs.Common.{sym, ap, ap₂, ◌∙◌, inl, inr, ⊎_elim, true≢false}
-use Rattle.std.specs.Prelude.{◌⊎◌, Bool, true, false, not, ◌&&◌, ℕ, ◌+◌, ◌-◌, ◌*◌, ◌/◌, ◌%◌, ◌≤◌, ◌<◌, length}
+use Rattle.std.specs.Prelude.{◌⊎◌, Bool, true, false, not, ◌&&◌, ℕ, ◌+◌, ◌-◌, ◌*◌, ◌/◌, ◌%◌, ◌≤◌, ◌<◌, length, None, Some}
 use Rattle.std.proofs.lemmas.Bool.{false≢true}
 use mathlib.Core.List.{List, [], ◌∷◌}
 use Rattle.std.proofs.Math.Decide.{dec_lt}
@@ -12,7 +12,6 @@ use Rattle.utf.specs.Bounds.{Below, between, outside, put_between, put_outside}
 use Rattle.utf.specs.ScalarLaws.{scalar_is, is_scalar_law, scalar_lt, by_scalar, utf16_one, utf16_two}
 use Rattle.utf.specs.Unicode.{is_scalar, all_scalar, utf16_of, utf16, is_high, is_low, paired, scalars16, units_of, unit_bytes, is_even, is_utf16, to_utf8}
 use Rattle.utf.specs.Utf16.{utf8_length_of}
-use Rattle.utf.specs.declared.utf16.Utf8Length.TheVariants.{Bytes, NotUtf16}
 
 -- Surrogates and scalar values.
 
@@ -293,13 +292,13 @@ even_paired t e p = rw (e, p)
 
 module _ (s : List ℕ) where
   -- a length: this is UTF-16, and its text in UTF-8 has that length
-  pub measured : (n : ℕ) → utf8_length_of s ≡ Bytes n → (is_utf16 s ≡ true) × (length (to_utf8 s) ≡ n)
+  pub measured : (n : ℕ) → utf8_length_of s ≡ Some n → (is_utf16 s ≡ true) × (length (to_utf8 s) ≡ n)
   unfolding utf8_length_of
   measured n h =
-      let m = cond_yes (is_utf16 s) (Bytes (length (to_utf8 s))) NotUtf16 (Bytes n) h (λ (e : NotUtf16 ≡ Bytes n). let z : ◌≡◌ {A = ℕ} 0 1 = cc in absurd (omega arith)) in
+      let m = cond_yes (is_utf16 s) (Some (length (to_utf8 s))) None (Some n) h (λ (e : None ≡ Some n). let z : ◌≡◌ {A = ℕ} 0 1 = cc in absurd (omega arith)) in
       (m.0, cc)
 
   -- none: this is no UTF-16
-  pub not_measured : utf8_length_of s ≡ NotUtf16 → is_utf16 s ≡ false
+  pub not_measured : utf8_length_of s ≡ None → is_utf16 s ≡ false
   unfolding utf8_length_of
-  not_measured h = cond_no (is_utf16 s) (Bytes (length (to_utf8 s))) NotUtf16 NotUtf16 h (λ (e : Bytes (length (to_utf8 s)) ≡ NotUtf16). let z : ◌≡◌ {A = ℕ} 0 1 = cc in absurd (omega arith))
+  not_measured h = cond_no (is_utf16 s) (Some (length (to_utf8 s))) None None h (λ (e : Some (length (to_utf8 s)) ≡ None). let z : ◌≡◌ {A = ℕ} 0 1 = cc in absurd (omega arith))

@@ -1,10 +1,9 @@
 -- Table 3-7 and the bits of UTF-8 agree: the check says yes exactly to what scalar values are written as.
-use Rattle.std.specs.Prelude.{Bool, true, false, cond, ◌≡◌, ◌↔◌, ◌⊎◌, length, ltb, leb}
+use Rattle.std.specs.Prelude.{Bool, true, false, cond, ◌≡◌, ◌↔◌, ◌⊎◌, length, ltb, leb, None, Option, Some}
 use Rattle.std.proofs.lemmas.Bool.{false≢true}
 use Rattle.std.proofs.Math.Path.{refl}
 use Rattle.std.proofs.Common.{sym, ap, ap₂, ◌∙◌, inl, inr, lit≤, lt-ltb, le-ltb, le-leb, leb-true}
 use mathlib.Core.List.{List, [], ◌∷◌, ◌++◌}
-use Rattle.std.proofs.Math.Option.{Option, none, some}
 use Prim.Native.Nat.{ℕ, suc, ◌+◌, ◌-◌, ◌*◌, ◌/◌, ◌%◌, ◌<◌, ◌≤◌}
 use Rattle.std.proofs.Math.Logic.{⊎_elim}
 use native.Mathlib.Omega.{arith}
@@ -36,17 +35,17 @@ GoodRows [] = Unit {0}
 GoodRows (row ∷ rows) = GoodRow row × GoodRows rows
 
 -- the row that is found is one of the rows
-found : (rows : List (List Range)) → GoodRows rows → (b : ℕ) (rs : List Range) → row_of rows b ≡ some rs → (length rs ≡ followers b) × Good rs (first_bits b) (b ∷ [])
+found : (rows : List (List Range)) → GoodRows rows → (b : ℕ) (rs : List Range) → row_of rows b ≡ Some rs → (length rs ≡ followers b) × Good rs (first_bits b) (b ∷ [])
 unfolding row_of within
 found [] g b rs e = let z : ◌≡◌ {A = ℕ} 0 1 = cc in absurd (omega arith)
 found ([] ∷ rows) g b rs e = found rows g.1 b rs e
 found (((low to high) ∷ row) ∷ rows) g b rs e = go (leb low b) refl (leb b high) refl (found rows g.1 b rs)
   where
-    go : (x : Bool) → leb low b ≡ x → (y : Bool) → leb b high ≡ y → (row_of rows b ≡ some rs → (length rs ≡ followers b) × Good rs (first_bits b) (b ∷ [])) → (length rs ≡ followers b) × Good rs (first_bits b) (b ∷ [])
+    go : (x : Bool) → leb low b ≡ x → (y : Bool) → leb b high ≡ y → (row_of rows b ≡ Some rs → (length rs ≡ followers b) × Good rs (first_bits b) (b ∷ [])) → (length rs ≡ followers b) × Good rs (first_bits b) (b ∷ [])
     go false p y q ih = ih (rw (p, row_of) at e)
     go true p false q ih = ih (rw (p, q, row_of) at e)
     go true p true q ih =
-        let k : some row ≡ some rs = rw (p, q, row_of) at e in
+        let k : Some row ≡ Some rs = rw (p, q, row_of) at e in
         let m : row ≡ rs = cc in
         rw (← m) (g.0 b (leb-true low b p) (leb-true b high q))
 
@@ -212,8 +211,8 @@ agrees (r ∷ rs) [] h v p g = absurd (false≢true h)
 agrees [] (b ∷ s) h v p g = rw g (go (row_of table b) refl (λ (rs : List Range). agrees rs s))
   where
     go : (o : Option (List Range)) → row_of table b ≡ o → ((rs : List Range) → well_formed rs s ≡ true → (v : ℕ) (p : List ℕ) → Begun rs v p → Agrees rs v p s) → Agrees [] v [] (b ∷ s)
-    go none e ih = absurd (false≢true (sym (first_out b s e) ∙ h))
-    go (some rs) e ih = first_agrees b s rs (found table good_table b rs e) (ih rs (sym (first_in b s e) ∙ h)) v
+    go None e ih = absurd (false≢true (sym (first_out b s e) ∙ h))
+    go (Some rs) e ih = first_agrees b s rs (found table good_table b rs e) (ih rs (sym (first_in b s e) ∙ h)) v
 agrees ((low to high) ∷ rs) (b ∷ s) h v p g = go (leb low b) refl (leb b high) refl (agrees rs s)
   where
     go : (x : Bool) → leb low b ≡ x → (y : Bool) → leb b high ≡ y → (well_formed rs s ≡ true → (v : ℕ) (p : List ℕ) → Begun rs v p → Agrees rs v p s) → Agrees ((low to high) ∷ rs) v p (b ∷ s)
@@ -246,9 +245,9 @@ inside (r ∷ rs) [] h = absurd h
 inside ((low to high) ∷ rs) (b ∷ s) h = rw (le-leb low b h.0.0, le-leb b high h.0.1) (inside rs s h.1)
 
 -- a sequence by its row: the row of each first byte of an interval is computed
-whole : (low n : ℕ) (rs : List Range) (b : ℕ) (s : List ℕ) → values (λ _. some rs) low n ≡ values (row_of table) low n → low ≤ b → b < low + n → Inside rs s → is_utf8 (b ∷ s) ≡ true
+whole : (low n : ℕ) (rs : List Range) (b : ℕ) (s : List ℕ) → values (λ _. Some rs) low n ≡ values (row_of table) low n → low ≤ b → b < low + n → Inside rs s → is_utf8 (b ∷ s) ≡ true
 unfolding is_utf8
-whole low n rs b s e h g i = first_in b s (sym (on (λ _. some rs) (row_of table) low n b e h g)) ∙ inside rs s i
+whole low n rs b s e h g i = first_in b s (sym (on (λ _. Some rs) (row_of table) low n b e h g)) ∙ inside rs s i
 
 -- a scalar value's bytes are one whole sequence of the table
 module _ (v : ℕ) where

@@ -1,18 +1,17 @@
 -- What follows from table 3-7: text after text, ASCII in front, a bad byte.
-use Rattle.std.specs.Prelude.{Bool, true, false, ◌≡◌, refl, List, [], ◌∷◌, ◌++◌, ℕ, ◌<◌, ltb}
+use Rattle.std.specs.Prelude.{Bool, true, false, ◌≡◌, refl, List, [], ◌∷◌, ◌++◌, ℕ, ◌<◌, ltb, None, Option, Some}
 use Rattle.std.proofs.lemmas.Bool.{false≢true}
 use Rattle.std.proofs.Common.{sym, ◌∙◌, arith, ltb-true, le-leb}
-use Rattle.std.proofs.Math.Option.{Option, none, some}
 use Rattle.utf.specs.Tests.{and_left, and_right}
 use Rattle.utf.specs.Unicode.{Range, within, table, row_of, well_formed, is_utf8, is_ascii}
 
 -- a first byte that a row has: the rest of the row is to come
-pub first_in : (b : ℕ) (s : List ℕ) {rs : List Range} → row_of table b ≡ some rs → well_formed [] (b ∷ s) ≡ well_formed rs s
+pub first_in : (b : ℕ) (s : List ℕ) {rs : List Range} → row_of table b ≡ Some rs → well_formed [] (b ∷ s) ≡ well_formed rs s
 unfolding well_formed
 first_in b s e = rw (e, well_formed)
 
 -- a first byte that no row has
-pub first_out : (b : ℕ) (s : List ℕ) → row_of table b ≡ none → well_formed [] (b ∷ s) ≡ false
+pub first_out : (b : ℕ) (s : List ℕ) → row_of table b ≡ None → well_formed [] (b ∷ s) ≡ false
 unfolding well_formed
 first_out b s e = rw (e, well_formed)
 
@@ -34,8 +33,8 @@ well_formed_append (r ∷ rs) [] t h = absurd (false≢true h)
 well_formed_append [] (b ∷ s) t h = go (row_of table b) refl (λ (rs : List Range). well_formed_append rs s t)
   where
     go : (o : Option (List Range)) → row_of table b ≡ o → ((rs : List Range) → well_formed rs s ≡ true → well_formed rs (s ++ t) ≡ well_formed [] t) → well_formed [] (b ∷ s ++ t) ≡ well_formed [] t
-    go none e ih = absurd (false≢true (sym (first_out b s e) ∙ h))
-    go (some rs) e ih = first_in b (s ++ t) e ∙ ih rs (sym (first_in b s e) ∙ h)
+    go None e ih = absurd (false≢true (sym (first_out b s e) ∙ h))
+    go (Some rs) e ih = first_in b (s ++ t) e ∙ ih rs (sym (first_in b s e) ∙ h)
 well_formed_append (r ∷ rs) (b ∷ s) t h = go (within r b) refl (well_formed_append rs s t)
   where
     go : (o : Bool) → within r b ≡ o → (well_formed rs s ≡ true → well_formed rs (s ++ t) ≡ well_formed [] t) → well_formed (r ∷ rs) (b ∷ s ++ t) ≡ well_formed [] t
@@ -48,12 +47,12 @@ unfolding is_utf8
 utf8_append s t h = well_formed_append [] s t h
 
 -- a byte that no row begins with, after whole text, makes the answer no
-pub utf8_bad : (s : List ℕ) (b : ℕ) (t : List ℕ) → is_utf8 s ≡ true → row_of table b ≡ none → is_utf8 (s ++ b ∷ t) ≡ false
+pub utf8_bad : (s : List ℕ) (b : ℕ) (t : List ℕ) → is_utf8 s ≡ true → row_of table b ≡ None → is_utf8 (s ++ b ∷ t) ≡ false
 unfolding is_utf8
 utf8_bad s b t h e = well_formed_append [] s (b ∷ t) h ∙ first_out b t e
 
 -- an ASCII byte is a sequence by itself
-pub ascii_row : (b : ℕ) → b < 0x80 → row_of table b ≡ some []
+pub ascii_row : (b : ℕ) → b < 0x80 → row_of table b ≡ Some []
 unfolding row_of table within
 ascii_row b h = rw (le-leb 0 b (omega arith), le-leb b 0x7F (omega arith))
 

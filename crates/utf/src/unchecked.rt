@@ -12,13 +12,13 @@ use crate::to_utf16::{few_units, lacks_units, write_utf16};
 pub fn units_in(s: &[u8]) -> usize
     ensures { result ≡ units_in s.now }
 {
+    let mut rest = s;
     let mut count: usize = 0;
-    let mut i: usize = 0;
-    while 64 <= s.len() - i {
-        count += few_units(&s[i..i + 64]) as usize;
-        i += 64;
+    while let Some((part, behind)) = rest.split_first_chunk::<64>() {
+        count += few_units(part) as usize;
+        rest = behind;
     }
-    count + few_units(&s[i..]) as usize
+    count + few_units(rest) as usize
 }
 
 // The change without a look at whether it is a text, for a caller that has checked it. Bytes that are no text become what the definition

@@ -1,39 +1,33 @@
 // UTF-16 of big-endian byte pairs: checked, measured, and changed to UTF-8.
-ghost use Rattle.std.specs.Prelude.{◌≡◌, true, ◌+◌, ◌≤◌, ◌<◌, length, drop};
+ghost use Rattle.std.specs.Prelude.{◌≡◌, true, [], ◌+◌, ◌≤◌, ◌<◌, length, MatchOption};
 ghost use Rattle.std.proofs.lemmas.List.Edits.{sets};
 ghost use Rattle.utf.specs.Unicode.{is_utf16, to_utf8, utf8_of};
 ghost use Rattle.utf.specs.Changed.{changed_of, changed_to};
 ghost use Rattle.utf.specs.Utf16.{utf8_length_of};
-ghost use Rattle.utf.specs.Utf16At.{UnitAt, ScalarAt};
+ghost use Rattle.utf.specs.Utf16At.{UnitAt, NextScalar};
 
 use crate::changed::Changed;
-
-// How many bytes a text has in UTF-8.
-#[derive(Clone, Copy)]
-pub enum Utf8Length {
-    Bytes(usize),
-    NotUtf16,
-}
 
 // Whether bytes are well-formed UTF-16.
 pub fn is_utf16(s: &[u8]) -> bool
     ensures { result ≡ is_utf16 s.now }
 {
     match utf8_length(s) {
-        Utf8Length::Bytes(_) => true,
-        Utf8Length::NotUtf16 => false,
+        Some(_) => true,
+        None => false,
     }
 }
 
 // The walk: it counts unit by unit, and leaves at the first surrogate that stands alone, or at a byte that does.
-pub fn utf8_length(s: &[u8]) -> Utf8Length
+pub fn utf8_length(s: &[u8]) -> Option<usize>
     ensures { result ≡ utf8_length_of s.now }
 {
     let mut i: usize = 0;
     let mut bytes: usize = 0;
+    // Kept: the walk leaves its labelled loop at the first lone surrogate, the form that the scope asks for.
     'units: loop {
         if s.len() == i {
-            return Utf8Length::Bytes(bytes);
+            return Some(bytes);
         }
         if s.len() - i < 2 {
             break 'units;
@@ -58,7 +52,7 @@ pub fn utf8_length(s: &[u8]) -> Utf8Length
             _ => bytes += width_of(unit),
         }
     }
-    Utf8Length::NotUtf16
+    None
 }
 
 // The text in UTF-8 at the start of the lent memory, where it is a text and fits. It is measured first, so that a refusal changes nothing.
@@ -66,7 +60,7 @@ pub fn utf16_to_utf8(s: &[u8], out: &mut [u8]) -> Changed
     ensures value { result ≡ changed_of (is_utf16 s.now) (to_utf8 s.now) out.old }
     ensures out_after { out.new ≡ changed_to (is_utf16 s.now) (to_utf8 s.now) out.old }
 {
-    let Utf8Length::Bytes(bytes) = utf8_length(s) else {
+    let Some(bytes) = utf8_length(s) else {
         return Changed::NotText;
     };
     if out.len() < bytes {
@@ -81,22 +75,35 @@ fn write_utf8(s: &[u8], out: &mut [u8])
     requires { (is_utf16 s.now ≡ true) × (length (to_utf8 s.now) ≤ length out.old) }
     ensures { out.new ≡ sets out.old 0 (to_utf8 s.now) }
 {
-    let mut i: usize = 0;
+    let mut rest = s;
     let mut at: usize = 0;
-    while i < s.len() {
-        let v = scalar_at(s, i);
-        if v < 0x80 {
-            out[at] = v as u8;
+    while let Some((value, behind)) = next_scalar(rest) {
+        if value < 0x80 {
+            out[at] = value as u8;
             at += 1;
-            i += 2;
-            continue;
-        }
-        at = put_scalar(out, at, v);
-        if v < 0x10000 {
-            i += 2;
         } else {
-            i += 4;
+            at = put_scalar(out, at, value);
         }
+        rest = behind;
+    }
+}
+
+// The scalar value in front of a text, one unit or two, and what is left behind it.
+fn next_scalar(s: &[u8]) -> Option<(u32, &[u8])>
+    requires { is_utf16 s.now ≡ true }
+    ensures { MatchOption result (s.now ≡ []) (λ p. NextScalar s.now p.0 p.1.now) }
+{
+    if s.is_empty() {
+        return None;
+    }
+    let unit = unit_at(s, 0);
+    match unit {
+        0xd800..=0xdbff => {
+            let next = unit_at(s, 2);
+            let scalar = 0x10000 + (unit - 0xd800) * 0x400 + (next - 0xdc00);
+            Some((scalar, &s[4..]))
+        }
+        _ => Some((unit, &s[2..])),
     }
 }
 
@@ -105,39 +112,19 @@ fn unit_at(s: &[u8], i: usize) -> u32
     requires { i + 2 ≤ length s.now }
     ensures { UnitAt s.now i result }
 {
-    s[i] as u32 * 256 + s[i + 1] as u32
-}
-
-// The scalar value that begins at i, where the text from there on is well formed.
-fn scalar_at(s: &[u8], i: usize) -> u32
-    requires { (is_utf16 (drop i s.now) ≡ true) × (i < length s.now) }
-    ensures { ScalarAt s.now i result }
-{
-    let unit = unit_at(s, i);
-    if unit < 0xd800 {
-        return unit;
-    }
-    if 0xdbff < unit {
-        return unit;
-    }
-    let next = unit_at(s, i + 2);
-    0x10000 + (unit - 0xd800) * 0x400 + (next - 0xdc00)
+    u16::from_be_bytes([s[i], s[i + 1]]) as u32
 }
 
 // How many bytes a scalar value has in UTF-8.
 fn width_of(v: u32) -> usize
     ensures { result ≡ length (utf8_of v) }
 {
-    if v < 0x80 {
-        return 1;
+    match v {
+        0..=0x7f => 1,
+        0x80..=0x7ff => 2,
+        0x800..=0xffff => 3,
+        _ => 4,
     }
-    if v < 0x800 {
-        return 2;
-    }
-    if v < 0x10000 {
-        return 3;
-    }
-    4
 }
 
 // The bytes of a scalar value from at on, and the place after them.

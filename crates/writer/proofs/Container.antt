@@ -48,22 +48,22 @@ module _ {t w out : List ℕ} {n e width pos : ℕ} (o : Told t w out n e width 
     pub box_number : 0 < get_or w (n * 4 + e) 0
     box_number = omega (arith, numbered)
 
-    module _ {place : ℕ} (at : suc place ≡ n * 5 + get_or w (n * 4 + e) 0) where
-      place_is : place ≡ n * 5 + number (pieces_in t) (box e)
-      place_is = omega (arith, at, numbered)
+    module _ {num : ℕ} (at : suc num ≡ get_or w (n * 4 + e) 0) where
+      number_is : num ≡ number (pieces_in t) (box e)
+      number_is = omega (arith, at, numbered)
 
-      pub box_place : place < length w
-      box_place = rw place_is (place_inside o.stand (box e) named)
+      pub box_place : n * 5 + num < length w
+      box_place = rw number_is (place_inside o.stand (box e) named)
 
-      module _ {v : List ℕ} (q : v ≡ set w place pos) where
+      module _ {v : List ℕ} (q : v ≡ set w (n * 5 + num) pos) where
         pub box_stand : Stand t v n (with_box t e) (pos + length (bytes_at (pieces_in t) (box e)))
-        box_stand = rw (q, place_is) (stand_new o.stand (box e) named new)
+        box_stand = rw (q, number_is) (stand_new o.stand (box e) named new)
 
         pub box_off : get_or v e 0 ≡ start_at t e
         box_off = box_stand.indexed.off e o.within
 
         box_grown : {a : List ℕ} {j : ℕ} → Wrote out pos (bytes_at (pieces_in t) (box e)) a j → Grown t n (said_at t e) out pos (with_box t e) v a j
-        box_grown f = rw (q, place_is, f.memory, f.ends) (grown_new o.stand out (box e) named new)
+        box_grown f = rw (q, number_is, f.memory, f.ends) (grown_new o.stand out (box e) named new)
 
         refs : (stop pair side : ℕ) (xs : List Name) → Path v n stop pair side (suc e) (map (rep_of (pieces_in t)) xs) → Named (pieces_in t) xs → Refs v n stop pair side (e + 1) (numbers_of t xs)
         refs stop pair side xs p h = rw add-one (refs_are box_stand stop pair side xs (suc e) h p)
@@ -83,7 +83,7 @@ module _ {t w out : List ℕ} {n e width pos : ℕ} (o : Told t w out n e width 
       box_dic h = rw (kind_dic o.stand.ready e k r d (rw there at h)) at d
 
   -- an array
-  module _ (r : List Piece) (d : drop e (pieces_in t) ≡ start arr ∷ r) {place : ℕ} (at : suc place ≡ n * 5 + get_or w (n * 4 + e) 0) {v : List ℕ} (q : v ≡ set w place pos) where
+  module _ (r : List Piece) (d : drop e (pieces_in t) ≡ start arr ∷ r) {num : ℕ} (at : suc num ≡ get_or w (n * 4 + e) 0) {v : List ℕ} (q : v ≡ set w (n * 5 + num) pos) where
     bytes_are : bytes_at (pieces_in t) (box e) ≡ object_bytes width (list (numbers_of t (kids 0 (suc e) r)))
     bytes_are = array_bytes (pieces_in t) e r d ∙ rw (← o.wide)
 
@@ -106,7 +106,7 @@ module _ {t w out : List ℕ} {n e width pos : ℕ} (o : Told t w out n e width 
     array_grown f = rw then (box_grown arr r d at q (rw bytes_are f))
 
   -- a dictionary
-  module _ (r : List Piece) (d : drop e (pieces_in t) ≡ start dic ∷ r) {place : ℕ} (at : suc place ≡ n * 5 + get_or w (n * 4 + e) 0) {v : List ℕ} (q : v ≡ set w place pos) {stop : ℕ} (s : stop ≡ e + skip 0 r) where
+  module _ (r : List Piece) (d : drop e (pieces_in t) ≡ start dic ∷ r) {num : ℕ} (at : suc num ≡ get_or w (n * 4 + e) 0) {v : List ℕ} (q : v ≡ set w (n * 5 + num) pos) {stop : ℕ} (s : stop ≡ e + skip 0 r) where
     both_are : bytes_at (pieces_in t) (box e) ≡ object_bytes width (pairs (numbers_of t (evens (kids 0 (suc e) r))) (numbers_of t (odds (kids 0 (suc e) r))))
     both_are = dictionary_bytes (pieces_in t) e r d ∙ rw (← o.wide)
 

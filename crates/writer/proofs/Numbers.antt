@@ -1,6 +1,6 @@
 -- Numbers of one size, written one after the other: what is left to be written.
-use Rattle.std.proofs.Common.{◌≡◌, ℕ, suc, ◌+◌, ◌-◌, ◌*◌, ◌<◌, ◌≤◌, List, [], ◌∷◌, length, get_or, take, drop, sym, refl, ◌∙◌, add-zero, suc-mul, arith, length-drop, length-take-le, drop-cons}
-use native.Mathlib.Nat.{sub-zero}
+use Rattle.std.proofs.Common.{◌≡◌, ℕ, suc, ◌+◌, ◌*◌, ◌<◌, ◌≤◌, List, [], ◌∷◌, length, get_or, drop, sym, refl, ◌∙◌, add-one, suc-mul, arith, drop-cons}
+use Rattle.std.proofs.Math.ListN.{drop_of_length-le}
 use lib.Seq.{sets, length-sets}
 use Rattle.number.specs.Be.{bytes_of}
 use Rattle.number.specs.BeLaws.{length_bytes_of}
@@ -34,6 +34,21 @@ module _ (out₀ : List ℕ) (from size : ℕ) (all : List ℕ) where
     unfolding numbers_bytes
     rest_done o = record { memory = o.same; ends = omega (arith, o.ends, length_numbers size all) }
 
+-- the numbers of a list, from place i on
+module _ (out₀ : List ℕ) (from size : ℕ) (all out : List ℕ) (i pos : ℕ) (o : Rest out₀ from size all out pos (drop i all)) where
+  pub list_done : length all ≤ i → Wrote out₀ from (numbers_bytes size all) out pos
+  list_done h = rest_done out₀ from size all out pos (rw (drop_of_length-le all h) at o)
+
+  module _ (h : i < length all) where
+    next : Rest out₀ from size all out pos (get_or all i 0 ∷ drop (i + 1) all)
+    next = rw (drop-cons all i 0 h, ← add-one i) at o
+
+    pub list_fits : from + length all * size ≤ length out₀ → pos + size ≤ length out
+    list_fits room = rest_fits out₀ from size all out pos _ _ next room
+
+    pub list_turn : Rest out₀ from size all (sets out pos (bytes_of size (get_or all i 0))) (pos + size) (drop (i + 1) all)
+    list_turn = rest_turn out₀ from size all out pos _ _ next
+
 -- A step of a walk over the words
 pub record Met (w : List ℕ) (n stop pair side i : ℕ) (left : List ℕ) : Type 0 where
   pub number : ℕ
@@ -41,10 +56,10 @@ pub record Met (w : List ℕ) (n stop pair side i : ℕ) (left : List ℕ) : Typ
   pub are : left ≡ number ∷ others
   pub paired : i + pair < n
   pub sided : i + side < n
-  pub under : get_or w (n + i + side) 0 < n
-  pub is : get_or w (n * 4 + get_or w (n + i + side) 0) 0 ≡ suc number
-  pub above : i < get_or w (n + n + i + pair) 0
-  pub way : Refs w n stop pair side (get_or w (n + n + i + pair) 0) others
+  pub under : get_or w (n + (i + side)) 0 < n
+  pub is : get_or w (n * 4 + get_or w (n + (i + side)) 0) 0 ≡ suc number
+  pub above : i < get_or w (n + n + (i + pair)) 0
+  pub way : Refs w n stop pair side (get_or w (n + n + (i + pair)) 0) others
 
 module _ (w : List ℕ) (n stop pair side i : ℕ) where
   pub refs_step : (left : List ℕ) → Refs w n stop pair side i left → i < stop → Met w n stop pair side i left
@@ -72,38 +87,10 @@ module _ {w : List ℕ} {n stop pair side : ℕ} {out₀ : List ℕ} {from size 
     pub going_fits : from + length all * size ≤ length out₀ → pos + size ≤ length out
     going_fits k = rest_fits out₀ from size all out pos going_met.number going_met.others (rw going_met.are at o.rest) k
 
-    pub going_turn : Going w n stop pair side out₀ from size all (sets out pos (bytes_of size (get_or w (n * 4 + get_or w (n + i + side) 0) 0 - 1))) (get_or w (n + n + i + pair) 0) (pos + size)
-    going_turn =
+    pub going_turn :
+        {number : ℕ} → suc number ≡ get_or w (n * 4 + get_or w (n + (i + side)) 0) 0 →
+        Going w n stop pair side out₀ from size all (sets out pos (bytes_of size number)) (get_or w (n + n + (i + pair)) 0) (pos + size)
+    going_turn {number} f =
         let m = going_met in
-        let e : get_or w (n * 4 + get_or w (n + i + side) 0) 0 - 1 ≡ m.number = omega (arith, m.is) in
+        let e : number ≡ m.number = omega (arith, f, m.is) in
         rw e (record { left = m.others; way = m.way; rest = rest_turn out₀ from size all out pos m.number m.others (rw m.are at o.rest) })
-
--- What is left of a column's words from word i on
-pub record Down (w : List ℕ) (at count : ℕ) (out₀ : List ℕ) (from size : ℕ) (out : List ℕ) (i pos : ℕ) : Type 0 where
-  pub upto : i ≤ count
-  pub rest : Rest out₀ from size (take count (drop at w)) out pos (take (count - i) (drop (at + i) w))
-
-module _ (w : List ℕ) (at count : ℕ) (out₀ : List ℕ) (from size : ℕ) where
-  pub down_start : Down w at count out₀ from size out₀ 0 from
-  down_start = record { upto = omega arith; rest = rw (sub-zero count, add-zero at) (rest_start out₀ from size (take count (drop at w))) }
-
-module _ {w : List ℕ} {at count : ℕ} {out₀ : List ℕ} {from size : ℕ} {out : List ℕ} {i pos : ℕ} (o : Down w at count out₀ from size out i pos) where
-  pub down_done : count ≤ i → Wrote out₀ from (numbers_bytes size (take count (drop at w))) out pos
-  down_done h =
-      let e : count - i ≡ 0 = omega (arith, o.upto) in
-      rest_done out₀ from size (take count (drop at w)) out pos (rw e at o.rest)
-
-  module _ (within : at + count ≤ length w) (h : i < count) where
-    next : Rest out₀ from size (take count (drop at w)) out pos (get_or w (at + i) 0 ∷ take (count - (i + 1)) (drop (at + (i + 1)) w))
-    next =
-        let e : count - i ≡ suc (count - (i + 1)) = omega arith in
-        let f : at + (i + 1) ≡ suc (at + i) = omega arith in
-        rw f (rw (e, drop-cons w (at + i) 0 (omega arith)) at o.rest)
-
-    pub down_fits : from + count * size ≤ length out₀ → pos + size ≤ length out
-    down_fits room =
-        let l : length (take count (drop at w)) ≡ count = length-take-le count (drop at w) (rw length-drop (omega arith)) in
-        rest_fits out₀ from size (take count (drop at w)) out pos _ _ next (rw l room)
-
-    pub down_turn : Down w at count out₀ from size (sets out pos (bytes_of size (get_or w (at + i) 0))) (i + 1) (pos + size)
-    down_turn = record { upto = omega arith; rest = rest_turn out₀ from size (take count (drop at w)) out pos _ _ next }

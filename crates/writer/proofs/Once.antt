@@ -60,28 +60,28 @@ module _ {t w out : List ℕ} {n e pos : ℕ} {kept : List Name} {s : Scalar} (o
     pub once_number : 0 < get_or w (n * 4 + r) 0
     once_number = omega (arith, numbered)
 
-    module _ {place : ℕ} (at : suc place ≡ n * 5 + get_or w (n * 4 + r) 0) where
-      place_is : place ≡ n * 5 + number (pieces_in t) (val s)
-      place_is = omega (arith, at, numbered)
+    module _ {num : ℕ} (at : suc num ≡ get_or w (n * 4 + r) 0) where
+      number_is : num ≡ number (pieces_in t) (val s)
+      number_is = omega (arith, at, numbered)
 
-      pub once_place : place < length w
-      once_place = rw place_is (place_inside o.stand (val s) o.named)
+      pub once_place : n * 5 + num < length w
+      once_place = rw number_is (place_inside o.stand (val s) o.named)
 
-      pub once_seen : 0 < get_or w place 0 → Grown t n kept out pos (nub_onto same kept (val s ∷ [])) w out pos
-      once_seen h = single_seen o (rw place_is at h)
+      pub once_seen : 0 < get_or w (n * 5 + num) 0 → Grown t n kept out pos (nub_onto same kept (val s ∷ [])) w out pos
+      once_seen h = single_seen o (rw number_is at h)
 
-      module _ (new : get_or w place 0 ≤ 0) where
-        pub once_first : {v : List ℕ} → v ≡ set w place pos → First t v out n r pos s
+      module _ (new : get_or w (n * 5 + num) 0 ≤ 0) where
+        pub once_first : {v : List ℕ} → v ≡ set w (n * 5 + num) pos → First t v out n r pos s
         once_first q =
             let (b, there) = rep_same (pieces_in t) e s o.behind o.stands in
             record {
               ready = o.stand.ready;
-              indexed = rw q (indexed_set o.stand.ready o.stand.indexed place pos (omega (arith, place_is)));
+              indexed = rw q (indexed_set o.stand.ready o.stand.indexed (n * 5 + num) pos (omega (arith, number_is)));
               behind = b;
               stands = rw rep_is there;
               first = sym rep_is;
-              room = single_room o (rw place_is at new);
+              room = single_room o (rw number_is at new);
             }
 
-        pub once_new : {v a : List ℕ} {j : ℕ} → v ≡ set w place pos → Wrote out pos (bytes_at (pieces_in t) (val s)) a j → Grown t n kept out pos (nub_onto same kept (val s ∷ [])) v a j
-        once_new q f = rw (q, place_is, f.memory, f.ends) (single_new o (rw place_is at new))
+        pub once_new : {v a : List ℕ} {j : ℕ} → v ≡ set w (n * 5 + num) pos → Wrote out pos (bytes_at (pieces_in t) (val s)) a j → Grown t n kept out pos (nub_onto same kept (val s ∷ [])) v a j
+        once_new q f = rw (q, number_is, f.memory, f.ends) (single_new o (rw number_is at new))

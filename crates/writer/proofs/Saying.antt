@@ -55,13 +55,13 @@ module _ {t : List ℕ} {n stop : ℕ} {kept ks : List Name} {out₀ : List ℕ}
         }
 
     module _ {v a : List ℕ} {j : ℕ} (g : Grown t n o.mid out pos (nub_onto same o.mid (val met.bytes ∷ [])) v a j) where
-      next_is : get_or v (n + n + i + 1) 0 ≡ next_at (pieces_in t) (suc i)
-      next_is = ap (λ (k : ℕ). get_or v k 0) (let e : n + n + i + 1 ≡ n + n + suc i = omega arith in e) ∙ g.stand.indexed.nexts (suc i) (omega arith) met_in
+      next_is : get_or v (n + n + (i + 1)) 0 ≡ next_at (pieces_in t) (suc i)
+      next_is = ap (λ (k : ℕ). get_or v k 0) (let e : n + n + (i + 1) ≡ n + n + suc i = omega arith in e) ∙ g.stand.indexed.nexts (suc i) (omega arith) met_in
 
-      pub saying_above : i < get_or v (n + n + i + 1) 0
+      pub saying_above : i < get_or v (n + n + (i + 1)) 0
       saying_above = omega (arith, next_is, met.above)
 
-      pub saying_turn : from ≡ end_of (pieces_in t) kept → Saying t n stop kept ks out₀ from v a (get_or v (n + n + i + 1) 0) j
+      pub saying_turn : from ≡ end_of (pieces_in t) kept → Saying t n stop kept ks out₀ from v a (get_or v (n + n + (i + 1)) 0) j
       saying_turn here = rw next_is (record {
         mid = nub_onto same o.mid (val met.bytes ∷ []);
         left = met.others;

@@ -1,13 +1,6 @@
--- When bytes are the same, and the number that is made of them. docs/FORMAT.md asks nothing of it: it only says where the writer looks first.
-use Rattle.std.specs.Prelude.{ℕ, zero, suc, ◌+◌, ◌-◌, ◌*◌, ◌/◌, ◌%◌, ◌^◌, Bool, cond, ◌&&◌, List, length, ◌==◌, nat_lt, slice_index}
-use Rattle.number.specs.Read.{number_of}
-use Rattle.number.specs.declared.be.Number.{Number}
-use Rattle.number.specs.declared.be.Number.TheVariants.{Of, NoNumber}
-
--- the byte at i and the k behind it
-abbrev pub agree_upto : List ℕ → List ℕ → ℕ → ℕ → Bool
-agree_upto a b i zero = slice_index a i == slice_index b i
-agree_upto a b i (suc k) = agree_upto a b i k && slice_index a (i + suc k) == slice_index b (i + suc k)
+-- The number that is made of bytes. docs/FORMAT.md asks nothing of it: it only says where the writer looks first.
+use Rattle.std.specs.Prelude.{ℕ, zero, suc, ◌+◌, ◌-◌, ◌*◌, ◌/◌, ◌%◌, ◌^◌, cond, List, length, nat_lt, slice_index}
+use Rattle.number.specs.Be.{be}
 
 -- four bytes, the low one first
 abbrev pub four_at : List ℕ → ℕ → ℕ
@@ -26,19 +19,11 @@ mixed_of h s i = (turned_of h + product_of (four_at s i) (four_at s (i + 4))) % 
 unfoldable pub folded_of : ℕ → ℕ
 folded_of h = (product_of (h % 0x1_0000_0000) (h / 0x1_0000_0000) % 0x1_0000_0000 + product_of (h % 0x1_0000_0000) (h / 0x1_0000_0000) / 0x1_0000_0000) % 0x1_0000_0000
 
--- fewer than eight bytes as a number
-unfoldable pub or_zero : Number → ℕ
-or_zero (Of n) = n
-or_zero NoNumber = 0
-
-unfoldable pub few_of : List ℕ → ℕ
-few_of s = or_zero (number_of s)
-
 -- the first k blocks of eight bytes, one mixed with the other
 unfoldable pub blocks_of : List ℕ → ℕ → ℕ
 blocks_of s zero = 0
 blocks_of s (suc k) = mixed_of (blocks_of s k) s (k * 8)
 
--- a number below 2 ^ 32
+-- a number below 2 ^ 32; fewer than eight bytes are one number
 unfoldable pub hash_of : List ℕ → ℕ
-hash_of s = cond (nat_lt (length s) 8) (folded_of (few_of s)) (folded_of (mixed_of (blocks_of s ((length s - 8 + 7) / 8)) s (length s - 8)))
+hash_of s = cond (nat_lt (length s) 8) (folded_of (be s)) (folded_of (mixed_of (blocks_of s ((length s - 8 + 7) / 8)) s (length s - 8)))

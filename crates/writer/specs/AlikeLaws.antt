@@ -1,10 +1,15 @@
--- Bytes that agree are the same; numbers of the hash fit their types.
-use Rattle.std.specs.Prelude.{◌≡◌, ℕ, zero, suc, ◌+◌, ◌-◌, ◌*◌, ◌/◌, ◌%◌, ◌^◌, ◌<◌, ◌≤◌, Bool, true, false, ◌&&◌, List, length, ◌==◌, ◌≢◌, nat_lt, slice_index, refl}
-use Rattle.std.proofs.lemmas.Bool.{false≢true}
-use Rattle.std.proofs.Common.{sym, ◌∙◌, mod-lt, div-lt_iff_lt-mul, mul-le-mul, mul-lt-mul_of_pos_right, mul_comm, arith, ltb-true, ltb-false, eqb-true, eq-eqb, lit<, ext_get_or}
+-- Bytes that are the same, and what the hash is made of.
+use Rattle.std.specs.Prelude.{◌≡◌, ℕ, zero, suc, ◌+◌, ◌*◌, ◌/◌, ◌%◌, ◌^◌, ◌<◌, ◌≤◌, Bool, true, false, List, [], take, drop, ◌≢◌, slice_index, slice_index_or, refl}
+use Rattle.std.specs.Bool.{Decides}
+use Rattle.std.specs.Int.{rotate_left, from_le_bytes}
+use Rattle.std.specs.Int.Bits.{bit_or, and_zero_l, and_zero_r}
+use Rattle.std.specs.Simd.{first_chunks}
+use Rattle.std.proofs.lemmas.List.{drop-drop}
+use Rattle.std.proofs.lemmas.Nat.{or_disjoint, and_block}
+use Rattle.std.proofs.Common.{ap, ◌∙◌, add_assoc, get_or-take, get_or-drop, add-zero, zero-add, mul-le-mul, div-lt_iff_lt-mul, mul-lt-mul_of_pos_right, mul_comm, arith, lit<, w64}
 use Rattle.written.specs.Graph.{same_bytes}
 use Rattle.written.proofs.NameLaws.{bytes_sound, bytes_refl}
-use Rattle.writer.specs.Alike.{agree_upto, turned_of}
+use Rattle.writer.specs.Alike.{four_at, turned_of, mixed_of}
 
 -- bytes that aren't the same
 pub bytes_other : (s t : List ℕ) → (s ≢ t) → same_bytes s t ≡ false
@@ -14,78 +19,56 @@ bytes_other s t h = go (same_bytes s t) refl
     go true e = absurd (h (bytes_sound s t e))
     go false e = e
 
--- lists that agree from i on; from one place less on, if they do there
-abbrev pub Agree : List ℕ → List ℕ → ℕ → ℕ → Type 0
-Agree a b i n = (j : ℕ) → i ≤ j → j < n → slice_index a j ≡ slice_index b j
+-- the test says whether they are
+pub bytes_decide : (s t : List ℕ) → Decides (same_bytes s t) (s ≡ t)
+bytes_decide s t = (bytes_sound s t, λ e. rw e (bytes_refl t))
 
-pub agree_more : (a b : List ℕ) (i n : ℕ) → 0 < i → slice_index a (i - 1) ≡ slice_index b (i - 1) → Agree a b i n → Agree a b (i - 1) n
-agree_more a b i n some e h j f g = go (nat_lt j i) refl
-  where
-    go : (x : Bool) → nat_lt j i ≡ x → slice_index a j ≡ slice_index b j
-    go true q =
-        let l : j < i = ltb-true j i q in
-        let z : j ≡ i - 1 = omega arith in
-        rw z e
-    go false q = h j (ltb-false j i q) g
+-- no bit is lost
+apart : (a b : ℕ) → b < 32 → bit_or (a * 32) b ≡ a * 32 + b
+apart a b f =
+    let e = and_block 5 a 0 0 b (lit< tt) f in
+    or_disjoint (a * 32) b (simp (add-zero, zero-add, and_zero_r, and_zero_l) at e)
 
--- the same up to i
-abbrev pub Agreed : List ℕ → List ℕ → ℕ → Type 0
-Agreed a b i = (j : ℕ) → j < i → slice_index a j ≡ slice_index b j
-
-both : (x y : Bool) → x && y ≡ true → (x ≡ true) × (y ≡ true)
-both true true e = (refl, refl)
-both true false e = absurd (false≢true e)
-both false y e = absurd (false≢true e)
-
--- bytes that are compared together
-agree_upto_law : (a b : List ℕ) (i k : ℕ) → agree_upto a b i k ≡ true → (j : ℕ) → i ≤ j → j ≤ i + k → slice_index a j ≡ slice_index b j
-agree_upto_law a b i zero e j f g =
-    let z : j ≡ i = omega arith in
-    rw z (eqb-true (slice_index a i) (slice_index b i) e)
-agree_upto_law a b i (suc k) e j f g = go (nat_lt j (i + suc k)) refl (agree_upto_law a b i k)
-  where
-    halves : (agree_upto a b i k ≡ true) × ((slice_index a (i + suc k) == slice_index b (i + suc k)) ≡ true)
-    halves = both (agree_upto a b i k) (slice_index a (i + suc k) == slice_index b (i + suc k)) e
-
-    go : (x : Bool) → nat_lt j (i + suc k) ≡ x → (agree_upto a b i k ≡ true → (j : ℕ) → i ≤ j → j ≤ i + k → slice_index a j ≡ slice_index b j) → slice_index a j ≡ slice_index b j
-    go true q ih = ih halves.0 j f (omega (arith, ltb-true j (i + suc k) q))
-    go false q ih =
-        let z : j ≡ i + suc k = omega (arith, ltb-false j (i + suc k) q) in
-        rw z (eqb-true (slice_index a (i + suc k)) (slice_index b (i + suc k)) halves.1)
-
-agree_self : (a : List ℕ) (i k : ℕ) → agree_upto a a i k ≡ true
-agree_self a i zero = eq-eqb (slice_index a i) (slice_index a i) refl
-agree_self a i (suc k) = rw (agree_self a i k) (eq-eqb (slice_index a (i + suc k)) (slice_index a (i + suc k)) refl)
-
-module _ (a b : List ℕ) (i k : ℕ) (c : Bool) (told : c ≡ agree_upto a b i k) where
-  -- some differ
-  pub eight_other : c ≡ false → false ≡ same_bytes a b
-  eight_other e = sym (bytes_other a b (λ f. false≢true (sym e ∙ told ∙ rw f (agree_self b i k))))
-
-  -- all agree
-  pub eight_more : c ≡ true → Agreed a b i → Agreed a b (i + suc k)
-  eight_more e h j l = go (nat_lt j i) refl
-    where
-      go : (x : Bool) → nat_lt j i ≡ x → slice_index a j ≡ slice_index b j
-      go true q = h j (ltb-true j i q)
-      go false q = agree_upto_law a b i k (sym told ∙ e) j (ltb-false j i q) (omega arith)
-
-  -- what is the same before the last bytes is the same if they are
-  pub eight_last : length a ≡ length b → length a ≤ i + suc k → Agreed a b i → c ≡ same_bytes a b
-  eight_last l f h = go c refl
-    where
-      go : (x : Bool) → c ≡ x → c ≡ same_bytes a b
-      go true e =
-          let z : a ≡ b = ext_get_or 0 a b l (λ j g. eight_more e h j (omega arith)) in
-          e ∙ rw z (sym (bytes_refl b))
-      go false e = e ∙ eight_other e
-
-turn_fits : (q r : ℕ) → q < 32 → r < 0x0800_0000_0000_0000 → r * 32 + q < 2 ^ 64
-turn_fits q r f g = omega arith
-
-pub turned_fits : (h : ℕ) → h < 2 ^ 64 → turned_of h < 2 ^ 64
+pub turned_is : (h : ℕ) → h < 2 ^ 64 → rotate_left w64 h 5 ≡ turned_of h
 unfolding turned_of
-turned_fits h f = turn_fits (h / 0x0800_0000_0000_0000) (h % 0x0800_0000_0000_0000) ((div-lt_iff_lt-mul (lit< tt)).1 f) (mod-lt h (lit< tt))
+turned_is h f =
+    let e : h * 32 % 2 ^ 64 ≡ h % 0x0800_0000_0000_0000 * 32 = omega arith in
+    rw e (apart (h % 0x0800_0000_0000_0000) (h / 0x0800_0000_0000_0000) (omega arith))
+
+-- eight bytes as two numbers of four
+halves : (a b : ℕ) → a < 2 ^ 32 → ((a + b * 2 ^ 32) % 2 ^ 32 ≡ a) × ((a + b * 2 ^ 32) / 2 ^ 32 ≡ b)
+halves a b f = (omega arith, omega arith)
+
+pub low_half : (s : List ℕ) → ((i : ℕ) → slice_index s i < 256) → from_le_bytes w64 s % 2 ^ 32 ≡ four_at s 0
+low_half s f = omega (arith, f 0, f 1, f 2, f 3, f 4, f 5, f 6, f 7)
+
+pub high_half : (s : List ℕ) → ((i : ℕ) → slice_index s i < 256) → from_le_bytes w64 s / 2 ^ 32 ≡ four_at s 4
+high_half s f = omega (arith, f 0, f 1, f 2, f 3, f 4, f 5, f 6, f 7)
+
+-- eight bytes by themselves are mixed in as where they stand
+mixed_at : (h : ℕ) (x s : List ℕ) (p : ℕ) → ((i : ℕ) → i < 8 → slice_index x i ≡ slice_index s (p + i)) → mixed_of h x 0 ≡ mixed_of h s p
+unfolding mixed_of
+mixed_at h x s p f =
+    let at : (k : ℕ) → k + 3 < 8 → four_at x k ≡ four_at s (p + k) = λ k g.
+    rw (f k (omega arith), f (k + 1) (omega arith), f (k + 2) (omega arith), f (k + 3) g, ← add_assoc p k 1, ← add_assoc p k 2, ← add_assoc p k 3) refl in
+    rw (at 0 (lit< tt), at 4 (lit< tt), add-zero) refl
+
+-- the bytes of a block
+block_of : (s : List ℕ) (m k : ℕ) → k < m → slice_index_or (first_chunks 8 m s) k [] ≡ take 8 (drop (k * 8) s)
+block_of s zero k h = absurd (omega arith)
+block_of s (suc m) zero h = refl
+block_of s (suc m) (suc k) h =
+    let e : suc k * 8 ≡ 8 + k * 8 = omega arith in
+    rw e (block_of (drop 8 s) m k (omega arith) ∙ ap (λ (l : List ℕ). take 8 l) (drop-drop (k * 8) 8 s))
+
+-- a block of the first e bytes
+pub mixed_block : (h : ℕ) (s : List ℕ) (e m k : ℕ) → k < m → m * 8 ≤ e → mixed_of h (slice_index_or (first_chunks 8 m (take e s)) k []) 0 ≡ mixed_of h s (k * 8)
+mixed_block h s e m k f g =
+    rw (block_of (take e s) m k f) (mixed_at h (take 8 (drop (k * 8) (take e s))) s (k * 8)
+    (λ i l. get_or-take 8 (drop (k * 8) (take e s)) i 0 l ∙ get_or-drop (k * 8) (take e s) i 0 ∙ get_or-take e s (k * 8 + i) 0 (omega arith)))
+
+pub mixed_last : (h : ℕ) (s : List ℕ) (p : ℕ) → mixed_of h (drop p s) 0 ≡ mixed_of h s p
+mixed_last h s p = mixed_at h (drop p s) s p (λ i l. get_or-drop p s i 0)
 
 pub times_fits : (a b : ℕ) → a < 2 ^ 32 → b ≤ 2 ^ 32 → a * b < 2 ^ 64
 times_fits a b f g = omega (arith, mul-le-mul {n₁ = a} {m₁ = b} {n₂ = 0xffff_ffff} {m₂ = 0x1_0000_0000} (omega arith) g)

@@ -1,5 +1,5 @@
 -- What one turn of the pass that collects events finds at its event.
-use Rattle.std.specs.Prelude.{◌≡◌, ℕ, suc, ◌+◌, ◌-◌, ◌*◌, ◌<◌, ◌≤◌, Bool, true, false, cond, List, ◌∷◌, length, take, drop, ◌==◌, nat_lt, slice_index, slice_index_or, slice_range, slice_set, refl}
+use Rattle.std.specs.Prelude.{◌≡◌, ℕ, suc, ◌+◌, ◌-◌, ◌*◌, ◌<◌, ◌≤◌, Bool, true, false, cond, List, ◌∷◌, length, take, drop, ◌==◌, nat_lt, slice_index, slice_index_or, slice_range, slice_set, refl, None, Option, Some}
 use mathlib.Core.List.{head-eq_of_cons-eq}
 use Rattle.std.proofs.Common.{sym, ◌∙◌, add-one, arith, lt-ltb, le-ltb, eq-eqb, ne_eqb, length-set, get_or-set_same, get_or-set_other}
 use Rattle.event.specs.Format.{max_length}
@@ -7,8 +7,6 @@ use Rattle.event.specs.Meaning.{Meaning}
 use Rattle.tape.specs.End.{end_of}
 use Rattle.tape.proofs.EndLaws.{end_reads}
 use Rattle.tape.specs.Events.{start_at}
-use Rattle.tape.specs.declared.end.End.{End}
-use Rattle.tape.specs.declared.end.End.TheVariants.{At, NoEvent}
 use Rattle.tape.specs.Item.{read_at, event}
 use Rattle.written.specs.Graph.{arr, dic, Piece, scalar, start, end, val}
 use Rattle.written.proofs.RepLaws.{rep_le, rep_box, rep_end}
@@ -25,15 +23,15 @@ use Rattle.writer.specs.Ready.{Ready, pieces_in}
 use Rattle.writer.specs.ReadyLaws.{HasKind, kind_at, event_at_law, kind_at_law, kind_scalar, scalar_at, piece_at, ready_small}
 
 -- the place after an event is where it ends
-module _ (t : List ℕ) (at : ℕ) (told : End) (f : told ≡ end_of t at) (m : Meaning) (next : ℕ) (reads : read_at t at ≡ event m next) where
-  pub after_at : (x : ℕ) → told ≡ At x → x ≡ next
+module _ (t : List ℕ) (at : ℕ) (told : Option ℕ) (f : told ≡ end_of t at) (m : Meaning) (next : ℕ) (reads : read_at t at ≡ event m next) where
+  pub after_at : (x : ℕ) → told ≡ Some x → x ≡ next
   after_at x g =
-      let h : end_of t at ≡ At next = end_reads t at m next reads in
+      let h : end_of t at ≡ Some next = end_reads t at m next reads in
       cc
 
-  pub after_none : told ≡ NoEvent → ⊥
+  pub after_none : told ≡ None → ⊥
   after_none g =
-      let h : end_of t at ≡ At next = end_reads t at m next reads in
+      let h : end_of t at ≡ Some next = end_reads t at m next reads in
       let z : ◌≡◌ {A = ℕ} 0 1 = cc in
       omega arith
 

@@ -1,6 +1,6 @@
 -- Where the columns REP and NEXT stand, a walk over the words from a container's start meets its members.
 use Rattle.std.specs.Prelude.{◌≡◌, ℕ, suc, ◌+◌, ◌<◌, List, [], ◌∷◌, map, drop, slice_index}
-use Rattle.std.proofs.Common.{sym, add-zero, add-suc, add-one, arith}
+use Rattle.std.proofs.Common.{sym, add-zero, add-one, arith}
 use Rattle.event.specs.Format.{max_open}
 use Rattle.written.specs.Graph.{Kind, dic, Piece, scalar, start, Name, kids, evens, odds}
 use Rattle.written.proofs.NameLaws.{drop_next}
@@ -28,9 +28,8 @@ module _ {t : List ℕ} {n : ℕ} (o : Ready t n) (w : List ℕ) (x : Indexed t 
   members_path stop i [] a = omega arith
   members_path stop i (x ∷ xs) (p, r, e, q, m, h, a) =
       let l = drop_piece o i p r e in
-      let b : i + 0 < n = omega arith in
-      rw (q, add-zero (n + i), add-zero (n + n + i), next_word i p r e)
-      (h, b, b, sym (rep_word i p r e), rep_under i p r e, next_above (pieces_in t) i p r e m, members_path stop (next_at (pieces_in t) i) xs a)
+      rw (q, add-zero i, next_word i p r e)
+      (h, l, l, sym (rep_word i p r e), rep_under i p r e, next_above (pieces_in t) i p r e m, members_path stop (next_at (pieces_in t) i) xs a)
 
   keys_path : (stop i : ℕ) (ks vs : List Name) → InPairs (pieces_in t) stop i ks vs → Path w n stop 1 0 i (map (rep_of (pieces_in t)) ks)
   keys_path stop i [] [] a = omega arith
@@ -39,7 +38,7 @@ module _ {t : List ℕ} {n : ℕ} (o : Ready t n) (w : List ℕ) (x : Indexed t 
   keys_path stop i (k ∷ ks) (v ∷ vs) (s, p, r, e, q, _, m, h, a) =
       let d = drop_next (pieces_in t) i (scalar s) (p ∷ r) e in
       let l = drop_piece o (suc i) p r d in
-      rw (q, add-zero (n + i), add-one (n + n + i), ← (add-suc (n + n) i), next_word (suc i) p r d) (
+      rw (q, add-zero i, add-one i, next_word (suc i) p r d) (
         omega arith,
         omega arith,
         omega arith,
@@ -56,7 +55,7 @@ module _ {t : List ℕ} {n : ℕ} (o : Ready t n) (w : List ℕ) (x : Indexed t 
   values_path stop i (k ∷ ks) (v ∷ vs) (s, p, r, e, _, q, m, h, a) =
       let d = drop_next (pieces_in t) i (scalar s) (p ∷ r) e in
       let l = drop_piece o (suc i) p r d in
-      rw (q, add-one (n + i), ← (add-suc n i), add-one (n + n + i), ← (add-suc (n + n) i), next_word (suc i) p r d) (
+      rw (q, add-one i, next_word (suc i) p r d) (
         omega arith,
         omega arith,
         omega arith,

@@ -21,13 +21,16 @@ pub mod MarksLaws
 pub mod Measure
 pub mod MeasureLaws
 pub mod MeasuredLaws
+pub mod Members
 pub mod NumberedLaws
 pub mod PathLaws
+pub mod Place
 pub mod Plan
 pub mod PlanLaws
 pub mod PutLaws
 pub mod Ready
 pub mod ReadyLaws
+pub mod ReadyOnce
 pub mod Speak
 pub mod SpeakLaws
 pub mod Write

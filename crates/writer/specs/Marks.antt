@@ -12,8 +12,8 @@ use Rattle.writer.specs.Ready.{pieces_in}
 abbrev pub Path : List ℕ → ℕ → ℕ → ℕ → ℕ → ℕ → List ℕ → Type 0
 Path w n stop pair side i [] = stop ≤ i
 Path w n stop pair side i (x ∷ xs) =
-    (i < stop) × (i + pair < n) × (i + side < n) × (x ≡ slice_index w (n + i + side)) × (x < n) × (i < slice_index w (n + n + i + pair))
-    × Path w n stop pair side (slice_index w (n + n + i + pair)) xs
+    (i < stop) × (i + pair < n) × (i + side < n) × (x ≡ slice_index w (n + (i + side))) × (x < n) × (i < slice_index w (n + n + (i + pair)))
+    × Path w n stop pair side (slice_index w (n + n + (i + pair))) xs
 
 -- where the word at a place is 0 it gets the next number, plus 1
 unfoldable pub new_words : List ℕ → ℕ → ℕ → List ℕ

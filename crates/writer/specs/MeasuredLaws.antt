@@ -1,5 +1,5 @@
 -- An event is measured: the walk over a container's members, and what is set in the columns NEXT and LEN.
-use Rattle.std.specs.Prelude.{◌≡◌, ℕ, suc, ◌+◌, ◌*◌, ◌/◌, ◌^◌, ◌<◌, ◌≤◌, Bool, true, false, List, ◌∷◌, length, drop, set, ◌==◌, ◌≢◌, slice_index, slice_index_or, slice_set}
+use Rattle.std.specs.Prelude.{◌≡◌, ℕ, suc, ◌+◌, ◌*◌, ◌/◌, ◌^◌, ◌<◌, ◌≤◌, Bool, true, false, List, ◌∷◌, length, drop, set, ◌==◌, ◌≢◌, slice_index, slice_index_or, slice_set, None, Some}
 use Rattle.std.proofs.lemmas.Bool.{false≢true, eqb-false}
 use mathlib.Core.List.{head-eq_of_cons-eq, tail-eq_of_cons-eq}
 use Rattle.std.proofs.Math.Path.{refl, sym, ap}
@@ -11,7 +11,6 @@ use Rattle.tape.specs.Events.{start_at}
 use Rattle.encode.specs.Size.{head_size, size_at}
 use Rattle.encode.specs.SizeLaws.{length_head, size_scalar}
 use Rattle.encode.specs.declared.size.Size.{Size}
-use Rattle.encode.specs.declared.size.Sized.TheVariants.{Found, NoScalar}
 use Rattle.written.specs.Encoding.{scalar_bytes}
 use Rattle.written.specs.Graph.{Scalar, Kind, arr, dic, Piece, scalar, start, end, val, kids, meant}
 use Rattle.written.proofs.NameLaws.{scalar_start, end_start}
@@ -149,32 +148,32 @@ module _ {t : List ℕ} {n : ℕ} (o : Ready t n) where
       )
 
       -- the first with its bytes is sized
-      sized : (k : Meaning) × (size_at t (slice_index w e) ≡ Found (record { bytes = length (scalar_bytes k); units = units_for k })) × (meant s ≡ k)
+      sized : (k : Meaning) × (size_at t (slice_index w e) ≡ Some (record { bytes = length (scalar_bytes k); units = units_for k })) × (meant s ≡ k)
       sized =
           let (k, a) = scalar_at o e s r d in
           (k, ap (size_at t) (m.off e h) ∙ size_scalar t (start_at t e) (start_at t (suc e)) k o.bytes a.here.reads a.lone, a.means)
 
-      pub always_sized : NoScalar ≡ size_at t (slice_index w e) → ⊥
+      pub always_sized : None ≡ size_at t (slice_index w e) → ⊥
       always_sized f =
           let (k, g, means) = sized in
           let y = f ∙ g in
           let z : ◌≡◌ {A = ℕ} 0 1 = cc in
           omega arith
 
-      size_is : (size : Size) → Found size ≡ size_at t (slice_index w e) → (size.bytes ≡ length (scalar_bytes (meant s))) × (size.units ≡ units_for (meant s))
+      size_is : (size : Size) → Some size ≡ size_at t (slice_index w e) → (size.bytes ≡ length (scalar_bytes (meant s))) × (size.units ≡ units_for (meant s))
       size_is size f =
           let (k, g, means) = sized in
           let y = f ∙ g in
           let z : size ≡ record { bytes = length (scalar_bytes k); units = units_for k } = cc in
           rw means (ap (λ (x : Size). x.bytes) z, ap (λ (x : Size). x.units) z)
 
-      pub units_small : (size : Size) → Found size ≡ size_at t (slice_index w e) → size.units < 2 ^ 32
+      pub units_small : (size : Size) → Some size ≡ size_at t (slice_index w e) → size.units < 2 ^ 32
       units_small size f =
           let (k, a) = scalar_at o e s r d in
           let g : size.units ≡ units_for k = rw a.means at (size_is size f).1 in
           omega (arith, g, units_le k a.here.held.1, long_is o e k a.here, a.here.within, o.short)
 
-      pub first_measured : slice_index_or w (n + e) 0 ≡ e → (size : Size) → Found size ≡ size_at t (slice_index w e) → Measured t (slice_set w (n * 3 + e) size.units) n e × Weighs t e size.bytes 0
+      pub first_measured : slice_index_or w (n + e) 0 ≡ e → (size : Size) → Some size ≡ size_at t (slice_index w e) → Measured t (slice_set w (n * 3 + e) size.units) n e × Weighs t e size.bytes 0
       unfolding weight_of members_of
       first_measured a size f =
           let u = size.units in

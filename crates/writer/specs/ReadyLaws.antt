@@ -1,7 +1,6 @@
 -- What is known of a tape that is ready: where each event stands, which bytes it has, and what its kind tells.
-use Rattle.std.specs.Prelude.{◌≡◌, ℕ, zero, suc, ◌+◌, ◌-◌, ◌<◌, ◌≤◌, true, false, List, [], ◌∷◌, ◌++◌, map, length, take, drop, pos, negsuc, slice_index, slice_index_or}
+use Rattle.std.specs.Prelude.{◌≡◌, ℕ, zero, suc, ◌+◌, ◌-◌, ◌<◌, ◌≤◌, true, false, List, [], ◌∷◌, ◌++◌, map, length, take, drop, pos, negsuc, slice_index, slice_index_or, None, Some}
 use mathlib.Core.List.{append-nil, head-eq_of_cons-eq}
-use Rattle.std.proofs.Math.Option.{none, some}
 use Rattle.std.proofs.Math.Path.{refl, ap}
 use Rattle.std.proofs.Common.{sym, ◌∙◌, add-zero, arith, length-append, take-append-drop, take-suc, get_or-append-add}
 use Rattle.std.proofs.Math.ListN.{length-map, get_or-append}
@@ -62,10 +61,10 @@ HasKind end k = k ≡ 0x0e
 
 pub kind_of_law : (m : Meaning) → HasKind (piece_of m) (slice_index (bytes_for m) 0)
 unfolding piece_of bytes_for
-kind_of_law (array none) = (omega arith, omega arith)
-kind_of_law (array (some n)) = (omega arith, omega arith)
-kind_of_law (dictionary none) = (omega arith, omega arith)
-kind_of_law (dictionary (some n)) = (omega arith, omega arith)
+kind_of_law (array None) = (omega arith, omega arith)
+kind_of_law (array (Some n)) = (omega arith, omega arith)
+kind_of_law (dictionary None) = (omega arith, omega arith)
+kind_of_law (dictionary (Some n)) = (omega arith, omega arith)
 kind_of_law close = refl
 kind_of_law (boolean false) = omega arith
 kind_of_law (boolean true) = omega arith

@@ -107,8 +107,8 @@ pub record Told (t w out : List ℕ) (n e width pos : ℕ) : Type 0 where
 abbrev pub Refs : List ℕ → ℕ → ℕ → ℕ → ℕ → ℕ → List ℕ → Type 0
 Refs w n stop pair side i [] = stop ≤ i
 Refs w n stop pair side i (x ∷ xs) =
-    (i < stop) × (i + pair < n) × (i + side < n) × (slice_index w (n + i + side) < n) × (slice_index w (n * 4 + slice_index w (n + i + side)) ≡ suc x)
-    × (i < slice_index w (n + n + i + pair)) × Refs w n stop pair side (slice_index w (n + n + i + pair)) xs
+    (i < stop) × (i + pair < n) × (i + side < n) × (slice_index w (n + (i + side)) < n) × (slice_index w (n * 4 + slice_index w (n + (i + side))) ≡ suc x)
+    × (i < slice_index w (n + n + (i + pair))) × Refs w n stop pair side (slice_index w (n + n + (i + pair))) xs
 
 -- what is known where references to objects of these numbers are to be written
 pub record Each (w out : List ℕ) (n first stop pair side width from : ℕ) (ks : List ℕ) : Type 0 where

@@ -175,7 +175,7 @@ pub refs_are : {t w : List ℕ} {n : ℕ} {kept : List Name} {pos : ℕ} → Sta
     Path w n stop pair side i (map (rep_of (pieces_in t)) xs) → Refs w n stop pair side i (map (number (pieces_in t)) xs)
 refs_are o stop pair side [] i h p = p
 refs_are {w = w} {n = n} o stop pair side (x ∷ xs) i h (a, b, c, d, l, m, p) =
-    let q = refs_are o stop pair side xs (slice_index w (n + n + i + pair)) (λ y j. h y (in_there y x xs j)) p in
+    let q = refs_are o stop pair side xs (slice_index w (n + n + (i + pair))) (λ y j. h y (in_there y x xs j)) p in
     (a, b, c, rw (← d) l, rw (← d) (o.numbers x (h x (in_here x xs))), m, q)
 
 -- the members of a container have numbers

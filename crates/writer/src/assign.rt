@@ -2,71 +2,72 @@
 ghost use Rattle.std.specs.Prelude.{◌≡◌, ℕ, suc, ◌+◌, ◌*◌, ◌^◌, ◌<◌, List, length};
 ghost use Rattle.writer.specs.Columns.{Indexed};
 ghost use Rattle.writer.specs.Marks.{Path, new_words, new_next, marked, Numbered};
-ghost use Rattle.writer.specs.Ready.{Ready};
+ghost use Rattle.writer.specs.Members.{last_of, named_of};
 
-use crate::words::{clear, set_word, word};
+use crate::members::Members;
+use crate::words::{Column, Events, clear};
 
 // Answers how many objects there are.
-pub(crate) fn assign(tape: &[u8], work: &mut [u32], n: usize) -> usize
-    requires { Ready tape.now n × Indexed tape.now work.old n }
-    ensures { Indexed tape.now work.new n × Numbered tape.now work.new n n result }
+pub(crate) fn assign(events: Events, work: &mut [u32]) -> usize
+    requires { Indexed events.tape.now work.old events.n }
+    ensures { Indexed events.entry.tape.now work.new events.entry.n × Numbered events.entry.tape.now work.new events.entry.n events.entry.n result }
 {
-    clear(work, n * 4, n * 5);
-    let mut k = mark(work, n * 4, 0);
-    let mut e: usize = 0;
-    while e < n {
-        k = assign_event(tape, work, n, e, k);
-        e += 1;
+    clear(work, events.n * 4, events.n * 5);
+    let mut k = mark(events, work, 0, 0);
+    for e in 0..events.n {
+        k = assign_event(events, work, e, k);
     }
     k
 }
 
-fn assign_event(tape: &[u8], work: &mut [u32], n: usize, e: usize, k: usize) -> usize
-    requires { Ready tape.now n × (e < n) × Indexed tape.now work.old n × Numbered tape.now work.old n e k }
-    ensures { Indexed tape.now work.new n × Numbered tape.now work.new n (suc e) result }
+fn assign_event(events: Events, work: &mut [u32], e: usize, k: usize) -> usize
+    requires { (e < events.n) × Indexed events.tape.now work.old events.n × Numbered events.tape.now work.old events.n e k }
+    ensures { Indexed events.entry.tape.now work.new events.entry.n × Numbered events.entry.tape.now work.new events.entry.n (suc e) result }
 {
-    let next = word(work, n + n + e);
+    let next = events.word(work, Column::Next, e);
     if next <= e + 1 {
         return k;
     }
-    let at = word(work, e);
-    if tape[at] < 0x0c {
-        return assign_each(work, n, e + 1, next - 1, 0, 0, k);
+    let at = events.word(work, Column::Off, e);
+    if events.tape[at] < 0x0c {
+        return assign_each(events, work, e + 1, next - 1, Members::All, k);
     }
-    let keys = assign_each(work, n, e + 1, next - 1, 1, 0, k);
-    assign_each(work, n, e + 1, next - 1, 1, 1, keys)
+    let keys = assign_each(events, work, e + 1, next - 1, Members::Keys, k);
+    assign_each(events, work, e + 1, next - 1, Members::Values, keys)
 }
 
-// The members from one event up to the end at `stop`: of an array each (pair 0, side 0); of a dictionary, in pairs of a key i and a value
-// i + 1, the keys (pair 1, side 0) or the values (pair 1, side 1).
+// These members, from one event up to the end at `stop`.
 fn assign_each(
+    events: Events,
     work: &mut [u32],
-    n: usize,
     first: usize,
     stop: usize,
-    pair: usize,
-    side: usize,
+    members: Members,
     next: usize,
 ) -> usize
-    requires { (length work.old ≡ n * 8) × ((rs : List ℕ) × Path work.old n stop pair side first rs × (next + length rs < 2 ^ 32)) }
-    ensures { (rs : List ℕ) → Path work.old n stop pair side first rs → (work.new ≡ (marked work.old n next rs).words) × (result ≡ (marked work.old n next rs).next) }
+    requires { (length work.old ≡ events.n * 8)
+        × ((rs : List ℕ) × Path work.old events.n stop (last_of members) (named_of members) first rs × (next + length rs < 2 ^ 32)) }
+    ensures { (rs : List ℕ) → Path work.old events.entry.n stop (last_of members) (named_of members) first rs
+        → (work.new ≡ (marked work.old events.entry.n next rs).words) × (result ≡ (marked work.old events.entry.n next rs).next) }
 {
     let mut i = first;
     let mut k = next;
+    // Kept: each turn goes on by the word that it read, so no range or iterator counts i.
     while i < stop {
-        k = mark(work, n * 4 + word(work, n + i + side), k);
-        i = word(work, n + n + i + pair);
+        let rep = events.word(work, Column::Rep, members.named(i));
+        k = mark(events, work, rep, k);
+        i = events.word(work, Column::Next, members.last(i));
     }
     k
 }
 
-// Gives a word the next number, plus 1, where it has none.
-fn mark(work: &mut [u32], at: usize, k: usize) -> usize
-    requires { (at < length work.old) × (k + 1 < 2 ^ 32) }
-    ensures { (work.new ≡ new_words work.old at k) × (result ≡ new_next work.old at k) }
+// Gives an event the next number, plus 1, where it has none.
+fn mark(events: Events, work: &mut [u32], e: usize, k: usize) -> usize
+    requires { (events.n * 4 + e < length work.old) × (k + 1 < 2 ^ 32) }
+    ensures { (work.new ≡ new_words work.old (events.entry.n * 4 + e) k) × (result ≡ new_next work.old (events.entry.n * 4 + e) k) }
 {
-    if word(work, at) == 0 {
-        set_word(work, at, k + 1);
+    if events.word(work, Column::Num, e) == 0 {
+        events.set_word(work, Column::Num, e, k + 1);
         return k + 1;
     }
     k

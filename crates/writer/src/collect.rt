@@ -7,37 +7,35 @@ ghost use Rattle.writer.specs.Collect.{FirstOf, alone_by, Turn};
 ghost use Rattle.writer.specs.Columns.{Collected};
 ghost use Rattle.writer.specs.Find.{Entered};
 ghost use Rattle.writer.specs.Index.{Index};
-ghost use Rattle.writer.specs.Ready.{Ready};
 
 use crate::find::find;
-use crate::words::{clear, set_word};
-use tape::end::End;
+use crate::words::{Column, Events, clear};
 use tape::unchecked;
 
-pub(crate) fn collect(tape: &[u8], work: &mut [u32], n: usize)
-    requires { Ready tape.now n × (length work.old ≡ n * 8) }
-    ensures { Collected tape.now work.new n n }
+pub(crate) fn collect(events: Events, work: &mut [u32])
+    requires { length work.old ≡ events.n * 8 }
+    ensures { Collected events.entry.tape.now work.new events.entry.n events.entry.n }
 {
-    clear(work, n * 4, n * 8);
-    let mut at: usize = 0;
-    let mut e: usize = 0;
-    while e < n {
-        at = collect_event(tape, work, n, e, at);
-        e += 1;
+    clear(work, events.n * 4, events.n * 8);
+    let mut at = 0;
+    for e in 0..events.n {
+        at = collect_event(events, work, e, at);
     }
 }
 
 // Answers the place after the event.
-fn collect_event(tape: &[u8], work: &mut [u32], n: usize, e: usize, at: usize) -> usize
-    requires { Ready tape.now n × (e < n) × (at ≡ start_at tape.now e) × Collected tape.now work.old n e × Index tape.now work.old n e }
-    ensures { (result ≡ start_at tape.now (suc e)) × Collected tape.now work.new n (suc e) × Index tape.now work.new n (suc e) }
+fn collect_event(events: Events, work: &mut [u32], e: usize, at: usize) -> usize
+    requires { (e < events.n) × (at ≡ start_at events.tape.now e)
+        × Collected events.tape.now work.old events.n e × Index events.tape.now work.old events.n e }
+    ensures { (result ≡ start_at events.entry.tape.now (suc e))
+        × Collected events.entry.tape.now work.new events.entry.n (suc e) × Index events.entry.tape.now work.new events.entry.n (suc e) }
 {
-    let end = place_after(tape, at);
-    set_word(work, e, at);
-    let first = first_like(tape, work, n, e, at, end);
-    set_word(work, n + e, first);
-    let next = alone(tape[at], e);
-    set_word(work, n + n + e, next);
+    let end = place_after(events.tape, at);
+    events.set_word(work, Column::Off, e, at);
+    let first = first_like(events, work, e, at, end);
+    events.set_word(work, Column::Rep, e, first);
+    let next = alone(events.tape[at], e);
+    events.set_word(work, Column::Next, e, next);
     end
 }
 
@@ -45,20 +43,20 @@ fn collect_event(tape: &[u8], work: &mut [u32], n: usize, e: usize, at: usize) -
 fn place_after(tape: &[u8], at: usize) -> usize
     ensures { (m : Meaning) (next : ℕ) → read_at tape.now at ≡ event m next → result ≡ next }
 {
-    let End::At(end) = unchecked::end_of(tape, at) else {
+    let Some(end) = unchecked::end_of(tape, at) else {
         return tape.len();
     };
     end
 }
 
 // REP: containers and ends are never equal.
-fn first_like(tape: &[u8], work: &mut [u32], n: usize, e: usize, at: usize, end: usize) -> usize
-    requires { Turn tape.now work.old n e at end }
-    ensures first_of { FirstOf tape.now e result }
-    ensures entered { Entered tape.now work.old work.new n e }
+fn first_like(events: Events, work: &mut [u32], e: usize, at: usize, end: usize) -> usize
+    requires { Turn events.tape.now work.old events.n e at end }
+    ensures first_of { FirstOf events.entry.tape.now e result }
+    ensures entered { Entered events.entry.tape.now work.old work.new events.entry.n e }
 {
-    if tape[at] < 0x0a {
-        return find(tape, work, n, e, &tape[at..end]);
+    if events.tape[at] < 0x0a {
+        return find(events, work, e, &events.tape[at..end]);
     }
     e
 }

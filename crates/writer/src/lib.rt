@@ -1,12 +1,6 @@
 // A binary property list from an event tape.
 //
-// The lent words are columns of one word for each of the n events. Column c of event e is the word c * n + e:
-//   0  OFF   where event e stands on the tape
-//   1  REP   of a scalar the first event with the same bytes, of a container itself
-//   2  NEXT  the event behind e: e + 1 of a scalar, behind its end of a container; of an end 0
-//   3  LEN   of a container how many members it has; of a scalar that is its own REP the units of a text that isn't ASCII, else 0
-//   4  NUM   of an event that is its own REP the object's number plus 1; 0 is none yet
-//   5  AT    where object i begins in the file; 0 is nowhere yet
+// The lent words are columns of one word for each of the n events (words.rt has their names): column c of event e is the word c * n + e.
 // Until REP stands for all events, the words from column 4 to the last are the index by which it is found (find.rt).
 #![tactic(auto)]
 
@@ -16,6 +10,7 @@ mod assign;
 mod collect;
 mod find;
 mod measure;
+mod members;
 mod plan;
 mod put;
 mod words;
@@ -23,12 +18,13 @@ mod words;
 ghost use Rattle.std.specs.Prelude.{◌≡◌, ◌*◌, length, drop};
 ghost use Rattle.number.specs.BeLaws.{Bytes};
 ghost use Rattle.written.specs.File.{file_of};
-ghost use Rattle.writer.specs.Ready.{Ready, pieces_in};
+ghost use Rattle.writer.specs.Ready.{pieces_in};
 ghost use Rattle.writer.specs.Write.{written_said, fitted_of, write_of, output_by, output_of, used_of};
 
 use crate::answer::Written;
 use crate::plan::plan_file;
 use crate::put::put_file;
+use crate::words::Events;
 use event::limits::MAX_LENGTH;
 use grammar::answer::Checked;
 use grammar::check::check_tape;
@@ -51,24 +47,24 @@ pub fn write_file(tape: &[u8], work: &mut [u32], out: &mut [u8]) -> Written
                 return Written::NoRoomForWork;
             }
             let words = n * COLUMNS;
-            write_events(tape, &mut work[..words], n, out)
+            write_events(Events { tape, n }, &mut work[..words], out)
         }
     }
 }
 
-// The same for a tape of n events that is one whole root, and as many words as it needs.
-fn write_events(tape: &[u8], work: &mut [u32], n: usize, out: &mut [u8]) -> Written
-    requires { Ready tape.now n × (length work.old ≡ n * 8) }
-    ensures result_value { written_said result ≡ fitted_of (file_of (pieces_in tape.now)) (length out.old) }
-    ensures out_after { out.new ≡ output_by (fitted_of (file_of (pieces_in tape.now)) (length out.old)) (file_of (pieces_in tape.now)) out.old }
+// The same where the tape is one whole root, and there are as many words as it needs.
+fn write_events(events: Events, work: &mut [u32], out: &mut [u8]) -> Written
+    requires { length work.old ≡ events.n * 8 }
+    ensures result_value { written_said result ≡ fitted_of (file_of (pieces_in events.entry.tape.now)) (length out.old) }
+    ensures out_after { let file = file_of (pieces_in events.entry.tape.now) in out.new ≡ output_by (fitted_of file (length out.old)) file out.old }
 {
-    let plan = plan_file(tape, work, n);
+    let plan = plan_file(events, work);
     if MAX_LENGTH < plan.length {
         return Written::FileTooLong;
     }
     if out.len() < plan.length {
         return Written::NoRoomForOutput;
     }
-    put_file(tape, work, n, plan.count, plan.width, plan.table, out);
+    put_file(events, work, plan, out);
     Written::Length(plan.length)
 }

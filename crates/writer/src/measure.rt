@@ -4,74 +4,66 @@ ghost use Rattle.written.specs.Graph.{Kind, Piece, Scalar, scalar, start};
 ghost use Rattle.written.specs.Weigh.{weight_from, members_from};
 ghost use Rattle.writer.specs.Columns.{Collected, Measured, Indexed};
 ghost use Rattle.writer.specs.Measure.{Weighs};
-ghost use Rattle.writer.specs.Ready.{Ready, pieces_in};
+ghost use Rattle.writer.specs.Ready.{pieces_in};
 
-use crate::words::{set_word, word};
-use encode::size::{Sized, head_size};
+use crate::words::{Column, Events};
+use encode::size::head_size;
 use encode::unchecked;
 
 // The bytes of objects without their references, and how many references there are.
-#[derive(Clone, Copy)]
+#[derive(Clone, Copy, Default)]
 pub(crate) struct Sums {
     pub(crate) bytes: usize,
     pub(crate) members: usize,
 }
 
 // From the last event back, so that all within a container is known before it.
-pub(crate) fn measure(tape: &[u8], work: &mut [u32], n: usize) -> Sums
-    requires { Ready tape.now n × Collected tape.now work.old n n }
-    ensures indexed { Indexed tape.now work.new n }
-    ensures bytes_value { (result.bytes ≡ weight_from (pieces_in tape.now) 0 (pieces_in tape.now)) × (result.members ≡ members_from 0 (pieces_in tape.now)) }
+pub(crate) fn measure(events: Events, work: &mut [u32]) -> Sums
+    requires { Collected events.tape.now work.old events.n events.n }
+    ensures indexed { Indexed events.entry.tape.now work.new events.entry.n }
+    ensures bytes_value { let es = pieces_in events.entry.tape.now in
+        (result.bytes ≡ weight_from es 0 es) × (result.members ≡ members_from 0 es) }
 {
-    let mut bytes: usize = 0;
-    let mut members: usize = 0;
-    let mut e = n;
-    while 0 < e {
-        e -= 1;
-        let sums = measure_event(tape, work, n, e);
+    let mut bytes = 0;
+    let mut members = 0;
+    for e in (0..events.n).rev() {
+        let sums = measure_event(events, work, e);
         bytes += sums.bytes;
         members += sums.members;
     }
     Sums { bytes, members }
 }
 
-fn measure_event(tape: &[u8], work: &mut [u32], n: usize, e: usize) -> Sums
-    requires { Ready tape.now n × (e < n) × Measured tape.now work.old n (suc e) }
-    ensures measured { Measured tape.now work.new n e }
-    ensures weighs { Weighs tape.now e result.bytes result.members }
+fn measure_event(events: Events, work: &mut [u32], e: usize) -> Sums
+    requires { (e < events.n) × Measured events.tape.now work.old events.n (suc e) }
+    ensures measured { Measured events.entry.tape.now work.new events.entry.n e }
+    ensures weighs { Weighs events.entry.tape.now e result.bytes result.members }
 {
-    let next = word(work, n + n + e);
+    let next = events.word(work, Column::Next, e);
     if next == e + 1 {
-        return measure_scalar(tape, work, n, e);
+        return measure_scalar(events, work, e);
     }
     if next == e {
-        return measure_container(tape, work, n, e);
+        return measure_container(events, work, e);
     }
-    Sums {
-        bytes: 0,
-        members: 0,
-    }
+    Sums::default()
 }
 
 // A scalar counts once.
-fn measure_scalar(tape: &[u8], work: &mut [u32], n: usize, e: usize) -> Sums
-    requires { Ready tape.now n × (e < n) × Measured tape.now work.old n (suc e) × ((s : Scalar) × (r : List Piece) × (drop e (pieces_in tape.now) ≡ scalar s ∷ r)) }
-    ensures measured { Measured tape.now work.new n e }
-    ensures weighs { Weighs tape.now e result.bytes result.members }
+fn measure_scalar(events: Events, work: &mut [u32], e: usize) -> Sums
+    requires { (e < events.n) × Measured events.tape.now work.old events.n (suc e)
+        × ((s : Scalar) × (r : List Piece) × (drop e (pieces_in events.tape.now) ≡ scalar s ∷ r)) }
+    ensures measured { Measured events.entry.tape.now work.new events.entry.n e }
+    ensures weighs { Weighs events.entry.tape.now e result.bytes result.members }
 {
-    if word(work, n + e) != e {
-        return Sums {
-            bytes: 0,
-            members: 0,
-        };
+    if events.word(work, Column::Rep, e) != e {
+        return Sums::default();
     }
-    let Sized::Found(size) = unchecked::size_of(tape, word(work, e)) else {
-        return Sums {
-            bytes: 0,
-            members: 0,
-        };
+    let at = events.word(work, Column::Off, e);
+    let Some(size) = unchecked::size_of(events.tape, at) else {
+        return Sums::default();
     };
-    set_word(work, n * 3 + e, size.units);
+    events.set_word(work, Column::Len, e, size.units);
     Sums {
         bytes: size.bytes,
         members: 0,
@@ -79,22 +71,24 @@ fn measure_scalar(tape: &[u8], work: &mut [u32], n: usize, e: usize) -> Sums
 }
 
 // From member to member up to the end.
-fn measure_container(tape: &[u8], work: &mut [u32], n: usize, e: usize) -> Sums
-    requires { Ready tape.now n × (e < n) × Measured tape.now work.old n (suc e) × ((k : Kind) × (r : List Piece) × (drop e (pieces_in tape.now) ≡ start k ∷ r)) }
-    ensures measured { Measured tape.now work.new n e }
-    ensures weighs { Weighs tape.now e result.bytes result.members }
+fn measure_container(events: Events, work: &mut [u32], e: usize) -> Sums
+    requires { (e < events.n) × Measured events.tape.now work.old events.n (suc e)
+        × ((k : Kind) × (r : List Piece) × (drop e (pieces_in events.tape.now) ≡ start k ∷ r)) }
+    ensures measured { Measured events.entry.tape.now work.new events.entry.n e }
+    ensures weighs { Weighs events.entry.tape.now e result.bytes result.members }
 {
     let mut i = e + 1;
-    let mut members: usize = 0;
-    while 0 < word(work, n + n + i) {
-        i = word(work, n + n + i);
+    let mut members = 0;
+    // Kept: each turn goes on by the word that it read, so no range or iterator counts i.
+    while 0 < events.word(work, Column::Next, i) {
+        i = events.word(work, Column::Next, i);
         members += 1;
     }
-    set_word(work, n + n + e, i + 1);
-    set_word(work, n * 3 + e, members);
-    let at = word(work, e);
+    events.set_word(work, Column::Next, e, i + 1);
+    events.set_word(work, Column::Len, e, members);
+    let at = events.word(work, Column::Off, e);
     Sums {
-        bytes: head_size(length_of(tape[at], members)),
+        bytes: head_size(length_of(events.tape[at], members)),
         members,
     }
 }

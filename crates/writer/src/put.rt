@@ -1,5 +1,6 @@
 // The file's bytes, and AT of each object as it is written.
-ghost use Rattle.std.specs.Prelude.{◌≡◌, ℕ, suc, ◌+◌, ◌*◌, ◌^◌, ◌<◌, ◌≤◌, List, [], ◌∷◌, length, take, drop, slice_index};
+ghost use Rattle.std.specs.Prelude.{◌≡◌, ℕ, suc, ◌+◌, ◌*◌, ◌^◌, ◌<◌, ◌≤◌, List, [], ◌∷◌};
+ghost use Rattle.std.specs.Prelude.{length, take, drop, slice_index};
 ghost use Rattle.std.proofs.lemmas.List.Edits.{sets};
 ghost use Rattle.number.specs.Be.{bytes_of};
 ghost use Rattle.written.specs.Encoding.{head_bytes, numbers_bytes, object_bytes, list, pairs, trailer_bytes};
@@ -9,245 +10,256 @@ ghost use Rattle.written.specs.Nub.{nub_onto};
 ghost use Rattle.written.specs.Shape.{skip};
 ghost use Rattle.encode.specs.Put.{base_of};
 ghost use Rattle.encode.specs.declared.put.Put.TheVariants.{Bytes};
+ghost use Rattle.writer.specs.Members.{last_of, named_of};
 ghost use Rattle.writer.specs.Ready.{pieces_in};
 ghost use Rattle.writer.specs.Speak.{Placed, Grown, Spoke, First, Single, Keys, Unsaid, Told, Each, Listed, Paired, Wrote, Planned};
 
-use crate::words::{clear, set_word, word};
+use crate::members::Members;
+use crate::plan::Plan;
+use crate::words::{Column, Events, clear};
 use encode::put::{Base, Put, put_head, put_number};
 use encode::unchecked;
 use number::size::size_for;
 
 // The whole file: magic, objects, offset table, trailer.
-pub(crate) fn put_file(
-    tape: &[u8],
-    work: &mut [u32],
-    n: usize,
-    count: usize,
-    width: usize,
-    table: usize,
-    out: &mut [u8],
-)
-    requires { Planned tape.now work.old out.old n count width table }
-    ensures { out.new ≡ sets out.old 0 (file_of (pieces_in tape.now)) }
+pub(crate) fn put_file(events: Events, work: &mut [u32], plan: Plan, out: &mut [u8])
+    requires { Planned events.tape.now work.old out.old events.n plan.count plan.width plan.table }
+    ensures { out.new ≡ sets out.old 0 (file_of (pieces_in events.entry.tape.now)) }
 {
     put_at(out, 0, 8, 0x6270_6c69_7374_3030);
-    put_objects(tape, work, n, width, out);
-    let size = size_for(table as u64);
-    let end = put_table(work, n, count, size, table, out);
-    put_trailer(out, end, size, width, count, table);
+    put_objects(events, work, plan.width, out);
+    let size = size_for(plan.table as u64);
+    let end = put_table(events, work, plan.count, size, plan.table, out);
+    put_trailer(out, end, size, plan);
 }
 
 // All objects, as the events come.
-fn put_objects(tape: &[u8], work: &mut [u32], n: usize, width: usize, out: &mut [u8])
-    requires { Unsaid tape.now work.old out.old n width }
-    ensures { (out.new ≡ sets out.old 8 (body (pieces_in tape.now))) × Placed tape.now work.new n (emission (pieces_in tape.now)) }
+fn put_objects(events: Events, work: &mut [u32], width: usize, out: &mut [u8])
+    requires { Unsaid events.tape.now work.old out.old events.n width }
+    ensures { let es = pieces_in events.entry.tape.now in
+        (out.new ≡ sets out.old 8 (body es)) × Placed events.entry.tape.now work.new events.entry.n (emission es) }
 {
-    clear(work, n * 5, n * 6);
-    let mut pos: usize = 8;
-    let mut e: usize = 0;
-    while e < n {
-        pos = put_event(tape, work, n, e, width, out, pos);
-        e += 1;
+    clear(work, events.n * 5, events.n * 6);
+    let mut pos = 8;
+    for e in 0..events.n {
+        pos = put_event(events, work, e, width, out, pos);
     }
 }
 
 // What an event writes: itself, unless it is written already or an end; of a dictionary also its keys. An equal scalar before it has been
 // written with its own event at the latest.
 fn put_event(
-    tape: &[u8],
+    events: Events,
     work: &mut [u32],
-    n: usize,
     e: usize,
     width: usize,
     out: &mut [u8],
     pos: usize,
 ) -> usize
-    requires { Told tape.now work.old out.old n e width pos }
-    ensures { Spoke tape.now n e out.old pos work.new out.new result }
+    requires { Told events.tape.now work.old out.old events.n e width pos }
+    ensures { Spoke events.entry.tape.now events.entry.n e out.old pos work.new out.new result }
 {
-    let next = word(work, n + n + e);
+    let next = events.word(work, Column::Next, e);
     if next == e + 1 {
-        if word(work, n + e) < e {
+        if events.word(work, Column::Rep, e) < e {
             return pos;
         }
-        return put_once(tape, work, n, e, out, pos);
+        return put_once(events, work, e, out, pos);
     }
     if next == 0 {
         return pos;
     }
-    put_container(tape, work, n, e, next - 1, width, out, pos)
+    put_container(events, work, e, next - 1, width, out, pos)
 }
 
 // A scalar, unless it is written already.
-fn put_once(tape: &[u8], work: &mut [u32], n: usize, e: usize, out: &mut [u8], pos: usize) -> usize
-    requires { (kept : List Name) × (s : Scalar) × Single tape.now work.old out.old n e pos kept s }
-    ensures { (kept : List Name) (s : Scalar) → Single tape.now work.old out.old n e pos kept s → Grown tape.now n kept out.old pos (nub_onto same kept (val s ∷ [])) work.new out.new result }
+fn put_once(events: Events, work: &mut [u32], e: usize, out: &mut [u8], pos: usize) -> usize
+    requires { (kept : List Name) × (s : Scalar) × Single events.tape.now work.old out.old events.n e pos kept s }
+    ensures { (kept : List Name) (s : Scalar) → Single events.entry.tape.now work.old out.old events.entry.n e pos kept s
+        → Grown events.entry.tape.now events.entry.n kept out.old pos (nub_onto same kept (val s ∷ [])) work.new out.new result }
 {
-    let r = word(work, n + e);
-    let place = place_of(work, n, r);
-    if 0 < word(work, place) {
+    let r = events.word(work, Column::Rep, e);
+    let number = number_of(events, work, r);
+    if 0 < events.word(work, Column::At, number) {
         return pos;
     }
-    set_word(work, place, pos);
-    put_first(tape, work, n, r, out, pos)
+    events.set_word(work, Column::At, number, pos);
+    put_first(events, work, r, out, pos)
 }
 
 // The scalar that event r is, which stands for all with the same bytes.
-fn put_first(tape: &[u8], work: &[u32], n: usize, r: usize, out: &mut [u8], pos: usize) -> usize
-    requires { (s : Scalar) × First tape.now work.now out.old n r pos s }
-    ensures { (s : Scalar) → First tape.now work.now out.old n r pos s → Wrote out.old pos (bytes_at (pieces_in tape.now) (val s)) out.new result }
+fn put_first(events: Events, work: &[u32], r: usize, out: &mut [u8], pos: usize) -> usize
+    requires { (s : Scalar) × First events.tape.now work.now out.old events.n r pos s }
+    ensures { (s : Scalar) → First events.entry.tape.now work.now out.old events.entry.n r pos s
+        → Wrote out.old pos (bytes_at (pieces_in events.entry.tape.now) (val s)) out.new result }
 {
-    let at = word(work, r);
-    let units = word(work, n * 3 + r);
-    behind(pos, unchecked::put_scalar(tape, at, units, &mut out[pos..]))
+    let at = events.word(work, Column::Off, r);
+    let units = events.word(work, Column::Len, r);
+    behind(
+        pos,
+        unchecked::put_scalar(events.tape, at, units, &mut out[pos..]),
+    )
 }
 
 // A container; of a dictionary then also the keys that aren't written yet.
 fn put_container(
-    tape: &[u8],
+    events: Events,
     work: &mut [u32],
-    n: usize,
     e: usize,
     stop: usize,
     width: usize,
     out: &mut [u8],
     pos: usize,
 ) -> usize
-    requires { Told tape.now work.old out.old n e width pos × ((k : Kind) × (r : List Piece) × (drop e (pieces_in tape.now) ≡ start k ∷ r) × (stop ≡ e + skip 0 r)) }
-    ensures { Spoke tape.now n e out.old pos work.new out.new result }
+    requires { Told events.tape.now work.old out.old events.n e width pos
+        × ((k : Kind) × (r : List Piece) × (drop e (pieces_in events.tape.now) ≡ start k ∷ r) × (stop ≡ e + skip 0 r)) }
+    ensures { Spoke events.entry.tape.now events.entry.n e out.old pos work.new out.new result }
 {
-    let place = place_of(work, n, e);
-    set_word(work, place, pos);
-    let at = word(work, e);
-    if tape[at] < 0x0c {
-        return put_array(work, n, e, stop, width, out, pos);
+    let number = number_of(events, work, e);
+    events.set_word(work, Column::At, number, pos);
+    let at = events.word(work, Column::Off, e);
+    if events.tape[at] < 0x0c {
+        return put_array(events, work, e, stop, width, out, pos);
     }
-    let keys = put_dictionary(work, n, e, stop, width, out, pos);
-    put_keys(tape, work, n, e + 1, stop, out, keys)
+    let keys = put_dictionary(events, work, e, stop, width, out, pos);
+    put_keys(events, work, e + 1, stop, out, keys)
 }
 
 // An array's head and its references to its members.
 fn put_array(
+    events: Events,
     work: &[u32],
-    n: usize,
     e: usize,
     stop: usize,
     width: usize,
     out: &mut [u8],
     pos: usize,
 ) -> usize
-    requires { (ks : List ℕ) × Listed work.now out.old n e stop width pos ks }
-    ensures { (ks : List ℕ) → Listed work.now out.old n e stop width pos ks → Wrote out.old pos (object_bytes width (list ks)) out.new result }
+    requires { (ks : List ℕ) × Listed work.now out.old events.n e stop width pos ks }
+    ensures { (ks : List ℕ) → Listed work.now out.old events.entry.n e stop width pos ks
+        → Wrote out.old pos (object_bytes width (list ks)) out.new result }
 {
-    let members = word(work, n * 3 + e);
+    let members = events.word(work, Column::Len, e);
     let head = put_head_at(out, pos, Base::Array, members);
-    put_each(work, n, e + 1, stop, 0, 0, width, out, head)
+    put_each(events, work, e + 1, stop, Members::All, width, out, head)
 }
 
 // A dictionary's head, its references to its keys, and those to its values.
 fn put_dictionary(
+    events: Events,
     work: &[u32],
-    n: usize,
     e: usize,
     stop: usize,
     width: usize,
     out: &mut [u8],
     pos: usize,
 ) -> usize
-    requires { (ks : List ℕ) × (vs : List ℕ) × Paired work.now out.old n e stop width pos ks vs }
-    ensures { (ks vs : List ℕ) → Paired work.now out.old n e stop width pos ks vs → Wrote out.old pos (object_bytes width (pairs ks vs)) out.new result }
+    requires { (ks : List ℕ) × (vs : List ℕ) × Paired work.now out.old events.n e stop width pos ks vs }
+    ensures { (ks vs : List ℕ) → Paired work.now out.old events.entry.n e stop width pos ks vs
+        → Wrote out.old pos (object_bytes width (pairs ks vs)) out.new result }
 {
-    let members = word(work, n * 3 + e);
+    let members = events.word(work, Column::Len, e);
     let head = put_head_at(out, pos, Base::Dictionary, members / 2);
-    let values = put_each(work, n, e + 1, stop, 1, 0, width, out, head);
-    put_each(work, n, e + 1, stop, 1, 1, width, out, values)
+    let values = put_each(events, work, e + 1, stop, Members::Keys, width, out, head);
+    put_each(
+        events,
+        work,
+        e + 1,
+        stop,
+        Members::Values,
+        width,
+        out,
+        values,
+    )
 }
 
-// The references to the members from one event up to the end at `stop`, as in assign_each.
+// The references to these members, from one event up to the end at `stop`.
 fn put_each(
+    events: Events,
     work: &[u32],
-    n: usize,
     first: usize,
     stop: usize,
-    pair: usize,
-    side: usize,
+    members: Members,
     width: usize,
     out: &mut [u8],
     from: usize,
 ) -> usize
-    requires { (ks : List ℕ) × Each work.now out.old n first stop pair side width from ks }
-    ensures { (ks : List ℕ) → Each work.now out.old n first stop pair side width from ks → Wrote out.old from (numbers_bytes width ks) out.new result }
+    requires { (ks : List ℕ) × Each work.now out.old events.n first stop (last_of members) (named_of members) width from ks }
+    ensures { (ks : List ℕ) → Each work.now out.old events.entry.n first stop (last_of members) (named_of members) width from ks
+        → Wrote out.old from (numbers_bytes width ks) out.new result }
 {
     let mut i = first;
     let mut pos = from;
+    // Kept: each turn goes on by the word that it read, so no range or iterator counts i.
     while i < stop {
-        let number = word(work, n * 4 + word(work, n + i + side)) - 1;
-        pos = put_at(out, pos, width, number as u64);
-        i = word(work, n + n + i + pair);
+        let rep = events.word(work, Column::Rep, members.named(i));
+        pos = put_at(out, pos, width, number_of(events, work, rep) as u64);
+        i = events.word(work, Column::Next, members.last(i));
     }
     pos
 }
 
 // A dictionary's keys: their bytes.
 fn put_keys(
-    tape: &[u8],
+    events: Events,
     work: &mut [u32],
-    n: usize,
     first: usize,
     stop: usize,
     out: &mut [u8],
     from: usize,
 ) -> usize
-    requires { (kept : List Name) × (ks : List Name) × (vs : List Name) × Keys tape.now work.old out.old n first stop from kept ks vs }
-    ensures { (kept ks vs : List Name) → Keys tape.now work.old out.old n first stop from kept ks vs → Grown tape.now n kept out.old from (nub_onto same kept ks) work.new out.new result }
+    requires { (kept : List Name) × (ks : List Name) × (vs : List Name)
+        × Keys events.tape.now work.old out.old events.n first stop from kept ks vs }
+    ensures { (kept ks vs : List Name) → Keys events.entry.tape.now work.old out.old events.entry.n first stop from kept ks vs
+        → Grown events.entry.tape.now events.entry.n kept out.old from (nub_onto same kept ks) work.new out.new result }
 {
     let mut i = first;
     let mut pos = from;
+    // Kept: each turn goes on by the word that it read, so no range or iterator counts i.
     while i < stop {
-        pos = put_once(tape, work, n, i, out, pos);
-        i = word(work, n + n + i + 1);
+        pos = put_once(events, work, i, out, pos);
+        i = events.word(work, Column::Next, i + 1);
     }
     pos
 }
 
 // The column AT.
 fn put_table(
+    events: Events,
     work: &[u32],
-    n: usize,
     count: usize,
     size: usize,
     table: usize,
     out: &mut [u8],
 ) -> usize
-    requires { (n * 5 + count ≤ length work.now) × (table + count * size ≤ length out.old) }
-    ensures { Wrote out.old table (numbers_bytes size (take count (drop (n * 5) work.now))) out.new result }
+    requires { (events.n * 5 + count ≤ length work.now) × (table + count * size ≤ length out.old) }
+    ensures { Wrote out.old table (numbers_bytes size (take count (drop (events.entry.n * 5) work.now))) out.new result }
 {
+    let places = &work[events.n * 5..events.n * 5 + count];
     let mut pos = table;
-    let mut i: usize = 0;
-    while i < count {
-        pos = put_at(out, pos, size, word(work, n * 5 + i) as u64);
-        i += 1;
+    for place in places {
+        pos = put_at(out, pos, size, u64::from(*place));
     }
     pos
 }
 
 // Six zeros and the two sizes are one number of eight bytes.
-fn put_trailer(out: &mut [u8], pos: usize, size: usize, width: usize, count: usize, table: usize)
-    requires { (pos + 32 ≤ length out.old) × (size < 256) × (width < 256) }
-    ensures { out.new ≡ sets out.old pos (trailer_bytes size width count 0 table) }
+fn put_trailer(out: &mut [u8], pos: usize, size: usize, plan: Plan)
+    requires { (pos + 32 ≤ length out.old) × (size < 256) × (plan.width < 256) }
+    ensures { out.new ≡ sets out.old pos (trailer_bytes size plan.width plan.count 0 plan.table) }
 {
-    put_at(out, pos, 8, size as u64 * 0x100 + width as u64);
-    put_at(out, pos + 8, 8, count as u64);
+    put_at(out, pos, 8, size as u64 * 0x100 + plan.width as u64);
+    put_at(out, pos + 8, 8, plan.count as u64);
     put_at(out, pos + 16, 8, 0);
-    put_at(out, pos + 24, 8, table as u64);
+    put_at(out, pos + 24, 8, plan.table as u64);
 }
 
-// Where AT of an object stands; r is its first event.
-fn place_of(work: &[u32], n: usize, r: usize) -> usize
-    requires { (length work.now ≡ n * 8) × (r < n) × (0 < slice_index work.now (n * 4 + r)) }
-    ensures { suc result ≡ n * 5 + slice_index work.now (n * 4 + r) }
+// The number of an object; r is its first event.
+fn number_of(events: Events, work: &[u32], r: usize) -> usize
+    requires { (length work.now ≡ events.n * 8) × (r < events.n) × (0 < slice_index work.now (events.n * 4 + r)) }
+    ensures { suc result ≡ slice_index work.now (events.entry.n * 4 + r) }
 {
-    n * 5 + word(work, n * 4 + r) - 1
+    events.word(work, Column::Num, r) - 1
 }
 
 // A head at a place of the output; answers the place after it.

@@ -1,6 +1,5 @@
 -- A given length decides nothing of what is written (docs/FORMAT.md, W2): starts that differ in it alone are one piece.
-use Rattle.std.proofs.Math.Option.{Option}
-use Rattle.std.specs.Prelude.{◌≡◌, refl, ℕ}
+use Rattle.std.specs.Prelude.{◌≡◌, refl, ℕ, Option}
 use Rattle.event.specs.Meaning.{array, dictionary}
 use Rattle.written.specs.Graph.{piece_of}
 

@@ -1,7 +1,7 @@
 -- WHAT HOLDS OF EVERY WRITTEN FILE, by the bytes as the reader's definitions read them: every object is looked up, references are in range, every
 -- object is reached, equal scalars are one object, each container but the root is named once, from a lower number, objects end before the table,
 -- and dates are finite.
-use Rattle.std.specs.Prelude.{true, List, map, ◌≡◌, refl, ℕ, ◌+◌, ◌*◌, ◌≤◌, ◌<◌}
+use Rattle.std.specs.Prelude.{true, List, map, ◌≡◌, refl, ℕ, ◌+◌, ◌*◌, ◌≤◌, ◌<◌, Some}
 use Rattle.std.proofs.Math.Path.{sym}
 use Rattle.std.proofs.Common.{ap, ◌∙◌, arith}
 use Rattle.std.proofs.Math.ListN.{length, get_or}
@@ -16,7 +16,6 @@ use Rattle.layout.specs.FoundLaws.{refs_of}
 use Rattle.layout.specs.Layout.{entry_at, look_of, source_of}
 use Rattle.layout.specs.Looked.{Shape, scalar, container}
 use Rattle.layout.specs.Trailer.{lays, trailer_of}
-use Rattle.layout.specs.declared.layout.Entry.TheVariants.{Of}
 use Rattle.layout.specs.declared.layout.Layout.{Layout}
 use Rattle.reader.specs.Meanings.{meaning_at}
 use Rattle.tape.specs.Code.{bytes_for, allowed}
@@ -46,7 +45,7 @@ pub data LookedUp (file : List ℕ) (l : Layout) (i : ℕ) : Type 0 where
 -- an object's offset, from the table; where its head and content end; what stands before a length that isn't in the marker
 pub record EndsBefore (file : List ℕ) (l : Layout) (i : ℕ) : Type 0 where
   pub at : ℕ
-  pub entry : entry_at file l i ≡ Of at
+  pub entry : entry_at file l i ≡ Some at
   pub before : end_at file l.refs at ≤ l.table
   pub marked : nibble_at file at ≡ 15 → LengthByte (get_or file (at + 1) 0)
 

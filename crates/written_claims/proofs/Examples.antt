@@ -1,6 +1,5 @@
 -- {"k": ["k", -1]}, P11 of docs/FORMAT.md: it is accepted, what its file's references are, and what reading it gives.
-use Rattle.std.specs.Prelude.{List, [], ◌∷◌, map, ◌≡◌, refl, ℕ, negsuc}
-use Rattle.std.proofs.Math.Option.{none, some}
+use Rattle.std.specs.Prelude.{List, [], ◌∷◌, map, ◌≡◌, refl, ℕ, negsuc, None, Some}
 use Rattle.std.proofs.Common.{ap, lit<, lit≤}
 use Rattle.number.specs.declared.width.Width.TheVariants.{One}
 use Rattle.event.specs.Meaning.{Meaning, array, dictionary, close, integer, text}
@@ -13,7 +12,7 @@ use Rattle.written_claims.specs.Filled.{filled}
 use Rattle.written_claims.specs.References.{named_by}
 
 abbrev nested : List Meaning
-nested = dictionary none ∷ text (0x6B ∷ []) ∷ array none ∷ text (0x6B ∷ []) ∷ integer (negsuc 0) ∷ close ∷ close ∷ []
+nested = dictionary None ∷ text (0x6B ∷ []) ∷ array None ∷ text (0x6B ∷ []) ∷ integer (negsuc 0) ∷ close ∷ close ∷ []
 
 pub nested_accepted : Accepted nested
 unfolding computed
@@ -33,6 +32,6 @@ unfolding computed
 nested_references = ap (λ (f : List ℕ). map (named_by f laid) (0 ∷ 1 ∷ 2 ∷ 3 ∷ [])) examples.2
 
 -- reading gives the events with their lengths
-pub nested_filled : filled nested ≡ dictionary (some 1) ∷ text (0x6B ∷ []) ∷ array (some 2) ∷ text (0x6B ∷ []) ∷ integer (negsuc 0) ∷ close ∷ close ∷ []
+pub nested_filled : filled nested ≡ dictionary (Some 1) ∷ text (0x6B ∷ []) ∷ array (Some 2) ∷ text (0x6B ∷ []) ∷ integer (negsuc 0) ∷ close ∷ close ∷ []
 unfolding computed
 nested_filled = refl

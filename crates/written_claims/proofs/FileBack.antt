@@ -1,11 +1,10 @@
 -- The reader on the file of some events hands out what they mean, with the objects' numbers and offsets.
 use mathlib.Core.List.{List, [], ◌∷◌, ◌++◌, map}
-use Rattle.std.proofs.Math.Option.{some}
-use Rattle.std.specs.Prelude.{◌≡◌, refl, ℕ, suc, ◌+◌, length, drop}
+use Rattle.std.specs.Prelude.{◌≡◌, refl, ℕ, suc, ◌+◌, length, drop, Some}
 use Rattle.std.proofs.Math.Path.{ap}
 use Rattle.std.proofs.Common.{◌∙◌}
 use Rattle.std.proofs.Math.ListN.{replicate}
-use Rattle.event.specs.Meaning.{array, dictionary, close, meaning_of, given_of}
+use Rattle.event.specs.Meaning.{array, dictionary, close, meaning_of}
 use Rattle.event.specs.Format.{max_open}
 use Rattle.event.specs.declared.Event.{Event}
 use Rattle.event.specs.declared.Event.TheVariants.{EndCollection}
@@ -36,12 +35,12 @@ use Rattle.written_claims.proofs.Objects.{look_holder}
 use Rattle.written_claims.specs.Writable.{Sound}
 
 -- what the reader's events of containers mean; the file gives them, and they have no bytes
-array_hands : (file : List ℕ) (i n at : ℕ) → AsksOwn file (start_of looked.array n) (origin i at) → HandsOut file (record { meaning = array (some n); offset = at }) (event_at (start_of looked.array n) (origin i at))
-unfolding meaning_at meaning_of start_of given_of event_asked has_bytes
+array_hands : (file : List ℕ) (i n at : ℕ) → AsksOwn file (start_of looked.array n) (origin i at) → HandsOut file (record { meaning = array (Some n); offset = at }) (event_at (start_of looked.array n) (origin i at))
+unfolding meaning_at meaning_of start_of event_asked has_bytes
 array_hands file i n at h = hands_out file i _ (start_of looked.array n) h refl refl
 
-dictionary_hands : (file : List ℕ) (i n at : ℕ) → AsksOwn file (start_of looked.dictionary n) (origin i at) → HandsOut file (record { meaning = dictionary (some n); offset = at }) (event_at (start_of looked.dictionary n) (origin i at))
-unfolding meaning_at meaning_of start_of given_of event_asked has_bytes
+dictionary_hands : (file : List ℕ) (i n at : ℕ) → AsksOwn file (start_of looked.dictionary n) (origin i at) → HandsOut file (record { meaning = dictionary (Some n); offset = at }) (event_at (start_of looked.dictionary n) (origin i at))
+unfolding meaning_at meaning_of start_of event_asked has_bytes
 dictionary_hands file i n at h = hands_out file i _ (start_of looked.dictionary n) h refl refl
 
 close_hands : (file : List ℕ) (i at : ℕ) → AsksOwn file EndCollection (origin i at) → HandsOut file (record { meaning = close; offset = at }) (event_at EndCollection (origin i at))

@@ -1,8 +1,7 @@
 -- What the reader is to hand out is the events with their lengths filled in. Those are the same events to the writer.
-use Rattle.std.specs.Prelude.{true, ◌≡◌, ltb, length}
+use Rattle.std.specs.Prelude.{true, ◌≡◌, ltb, length, Some}
 use Rattle.std.proofs.lemmas.Bool.{false≢true}
 use mathlib.Core.List.{List, [], ◌∷◌, map}
-use Rattle.std.proofs.Math.Option.{some}
 use Rattle.std.proofs.Math.Path.{refl}
 use Rattle.std.proofs.Common.{ap, ap₂, ◌∙◌, arith}
 use Prim.Native.Nat.{ℕ, zero, suc, ◌/◌}
@@ -31,8 +30,8 @@ kids_count (suc d) n m (end ∷ es) = kids_count d (suc n) (suc m) es
 unfoldable meant_from : List Piece → List Meaning
 meant_from [] = []
 meant_from (scalar s ∷ es) = meant s ∷ meant_from es
-meant_from (start arr ∷ es) = array (some (length (kids 0 0 es))) ∷ meant_from es
-meant_from (start dic ∷ es) = dictionary (some (length (kids 0 0 es) / 2)) ∷ meant_from es
+meant_from (start arr ∷ es) = array (Some (length (kids 0 0 es))) ∷ meant_from es
+meant_from (start dic ∷ es) = dictionary (Some (length (kids 0 0 es) / 2)) ∷ meant_from es
 meant_from (end ∷ es) = close ∷ meant_from es
 
 module _ (at : Name → ℕ) (top : ℕ) where

@@ -1,6 +1,5 @@
 -- Tapes that differ in given lengths alone, computed: numbers of T1, malformed ones, and what the writer answers to both.
-use Rattle.std.specs.Prelude.{true, false, List, [], ◌∷◌, ◌++◌, map, ◌≡◌, refl, ℕ, replicate}
-use Rattle.std.proofs.Math.Option.{none}
+use Rattle.std.specs.Prelude.{true, false, List, [], ◌∷◌, ◌++◌, map, ◌≡◌, refl, ℕ, replicate, None}
 use Rattle.event.specs.Meaning.{array, close, boolean}
 use Rattle.grammar.specs.declared.answer.EventKind.TheVariants.{ValueOrStartCollection, EndCollection}
 use Rattle.written.specs.Graph.{arr}
@@ -26,12 +25,12 @@ are_numerals = (refl, refl, refl)
 
 -- an array in an array, whose start is a piece
 abbrev inner : TapePiece → List TapePiece
-inner p = event (array none) ∷ p ∷ []
+inner p = event (array None) ∷ p ∷ []
 
 pub apart : LengthsApart (0x0A ∷ 0x0A ∷ 0x0E ∷ 0xFF ∷ []) (0x0A ∷ 0x0B ∷ 0x80 ∷ 0x00 ∷ 0x0E ∷ 0xFF ∷ [])
 unfolding computed
 apart = record {
-  ps = inner (event (array none));
+  ps = inner (event (array None));
   qs = inner (given arr (0x80 ∷ 0x00 ∷ []));
   rest = 0x0E ∷ 0xFF ∷ [];
   one = refl;
@@ -44,7 +43,7 @@ apart = record {
 pub cut_off : LengthsApart (0x0A ∷ 0x0A ∷ []) (0x0A ∷ 0x0B ∷ 0x80 ∷ [])
 unfolding computed
 cut_off = record {
-  ps = inner (event (array none));
+  ps = inner (event (array None));
   qs = inner (given arr (0x80 ∷ []));
   rest = [];
   one = refl;
@@ -56,7 +55,7 @@ cut_off = record {
 
 -- the tapes of [[ and a rest: the inner start without a length, and with each of these
 abbrev tapes : List (List ℕ) → List ℕ → List (List ℕ)
-tapes lengths rest = map (λ (p : TapePiece). tape_from (inner p) rest) (event (array none) ∷ map (given arr) lengths)
+tapes lengths rest = map (λ (p : TapePiece). tape_from (inner p) rest) (event (array None) ∷ map (given arr) lengths)
 
 -- FF where an element is due: 20 at byte 1 of the rest; two ends: a whole root, for which there are no words; nothing: 22 at the end. Where the number is
 -- malformed, 20 at piece 1
@@ -69,7 +68,7 @@ answers = (refl, refl, refl)
 
 -- behind a whole root, or behind an event that is refused, the number isn't looked at: 23 and 21 on both
 pub not_met :
-    (map (λ (p : TapePiece). write_of (tape_from (event (boolean true) ∷ p ∷ []) []) 0 0) (event (array none) ∷ map (given arr) short) ≡ replicate 3 (refused 23 [] 1)) ×
-    (map (λ (p : TapePiece). write_of (tape_from (event close ∷ p ∷ []) []) 0 0) (event (array none) ∷ map (given arr) short) ≡ replicate 3 (refused 21 (ValueOrStartCollection ∷ EndCollection ∷ []) 0))
+    (map (λ (p : TapePiece). write_of (tape_from (event (boolean true) ∷ p ∷ []) []) 0 0) (event (array None) ∷ map (given arr) short) ≡ replicate 3 (refused 23 [] 1)) ×
+    (map (λ (p : TapePiece). write_of (tape_from (event close ∷ p ∷ []) []) 0 0) (event (array None) ∷ map (given arr) short) ≡ replicate 3 (refused 21 (ValueOrStartCollection ∷ EndCollection ∷ []) 0))
 unfolding computed
 not_met = (refl, refl)

@@ -1,6 +1,7 @@
 -- Numerals: no other begins with one, and what is read from one is its number, or nothing where it is none of T1.
-use Rattle.std.specs.Prelude.{Bool, true, false, ◌⊎◌, ◌≡◌, refl, ℕ, zero, suc, ◌+◌, ◌/◌, ◌%◌, ◌^◌, ◌<◌, ltb, eqb, length}
+use Rattle.std.specs.Prelude.{Bool, true, false, ◌⊎◌, ◌≡◌, refl, ℕ, zero, suc, ◌+◌, ◌/◌, ◌%◌, ◌^◌, ◌<◌, ltb, eqb, length, None, Option, Some}
 use Rattle.std.proofs.lemmas.Bool.{false≢true}
+use Rattle.std.proofs.lemmas.Option.{none-some}
 use mathlib.Core.List.{List, [], ◌∷◌, ◌++◌, nil≢cons, head-eq_of_cons-eq, tail-eq_of_cons-eq}
 use Rattle.std.proofs.Common.{inl, inr, sym, ap₂, ◌∙◌, arith, lt-ltb, le-ltb, ltb-true, ltb-false, eqb-true}
 use Rattle.number.specs.BeLaws.{Bytes}
@@ -8,8 +9,6 @@ use Rattle.tape.specs.Seven.{groups, seven}
 use Rattle.tape.specs.SevenLaws.{groups_last, groups_more, rest_lt}
 use Rattle.tape.specs.Value.{number_from}
 use Rattle.tape.specs.ValueLaws.{number_seven, number_begins}
-use Rattle.tape.specs.declared.value.Value.{Value}
-use Rattle.tape.specs.declared.value.Value.TheVariants.{Of, NoValue}
 use Rattle.written_claims.specs.Lengths.{is_numeral}
 
 pub none_there : (s : List ℕ) → eqb (length s) 0 ≡ true → s ≡ []
@@ -49,17 +48,16 @@ seven_numeral n h = groups_numeral 9 n (omega arith)
 
 -- a numeral is a number's groups, or no number has them and none is read from it
 module _ (cut : Bool) (s q : List ℕ) (end : cut ≡ true → q ≡ []) (is : is_numeral cut s ≡ true) (good : Bytes (s ++ q)) (at : ℕ) where
-  pub numeral_read : ((n : ℕ) × (n < 2 ^ 64) × (s ≡ seven n)) ⊎ (((n : ℕ) → n < 2 ^ 64 → s ≡ seven n → ⊥) × (number_from at (s ++ q) ≡ NoValue))
+  pub numeral_read : ((n : ℕ) × (n < 2 ^ 64) × (s ≡ seven n)) ⊎ (((n : ℕ) → n < 2 ^ 64 → s ≡ seven n → ⊥) × (number_from at (s ++ q) ≡ None))
   numeral_read = go (number_from at (s ++ q)) refl
     where
-      go : (v : Value) → number_from at (s ++ q) ≡ v → ((n : ℕ) × (n < 2 ^ 64) × (s ≡ seven n)) ⊎ (((n : ℕ) → n < 2 ^ 64 → s ≡ seven n → ⊥) × (number_from at (s ++ q) ≡ NoValue))
-      go (Of n next) e =
+      go : (v : Option (ℕ × ℕ)) → number_from at (s ++ q) ≡ v → ((n : ℕ) × (n < 2 ^ 64) × (s ≡ seven n)) ⊎ (((n : ℕ) → n < 2 ^ 64 → s ≡ seven n → ⊥) × (number_from at (s ++ q) ≡ None))
+      go (Some (n, next)) e =
           let b = number_begins (s ++ q) at n next good e in
           inl (n, b.fits, numerals_one cut s (seven n) q b.rest end is (seven_numeral n b.fits) b.split)
-      go NoValue e = inr (
+      go None e = inr (
         (λ n h f.
-            let x : Of n (at + length (seven n)) ≡ NoValue = sym (number_seven at n q h) ∙ rw (← f) e in
-            let z : ◌≡◌ {A = ℕ} 0 1 = cc in
-            omega arith),
+            let x : ◌≡◌ {A = Option (ℕ × ℕ)} (Some (n, at + length (seven n))) None = sym (number_seven at n q h) ∙ rw (← f) e in
+            none-some _ (sym x)),
         e,
       )

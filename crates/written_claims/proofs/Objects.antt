@@ -1,8 +1,8 @@
 -- What the written file's bytes say of each number below the count: a scalar, or a container with its references.
-use Rattle.std.specs.Prelude.{false, ◌≡◌, refl, ℕ, suc, ◌≤◌, ◌<◌, length}
+use mathlib.Core.Option.{none, some}
+use Rattle.std.specs.Prelude.{false, ◌≡◌, refl, ℕ, suc, ◌≤◌, ◌<◌, length, Some}
 use Rattle.std.proofs.Common.{true≢false, ◌∙◌, arith, le-ltb}
 use mathlib.Core.List.{List, [], ◌∷◌, map}
-use Rattle.std.proofs.Math.Option.{some}
 use Rattle.std.proofs.Math.Path.{sym, ap}
 use Rattle.std.proofs.Math.ListN.{get_or, get_elem?, drop, length-map}
 use Rattle.std.proofs.Math.Seq.{drop-cons, drop-length}

@@ -1,6 +1,6 @@
 -- Which room is short first, and at which event. With room enough for all events a reading puts all of them and ends with the file.
+use mathlib.Core.Option.{none, some}
 use Rattle.std.specs.Prelude.{Bool, true, false, List, [], ◌∷◌, ◌≡◌, refl, ℕ, zero, suc, ◌+◌, ◌≤◌, ◌<◌, leb, length, take}
-use Rattle.std.proofs.Math.Option.{some}
 use Rattle.std.proofs.Common.{ap, sym, ◌∙◌, add_assoc, add-zero, arith, leb-true, leb-false}
 use Rattle.std.proofs.Math.Nat.{max-le, le-max_left, le-max_right}
 use Rattle.std.proofs.Math.ListN.{get_elem?, length-append}

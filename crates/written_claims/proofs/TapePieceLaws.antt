@@ -1,7 +1,6 @@
 -- Pieces of a tape are read as events, up to a start whose number is malformed.
-use Rattle.std.specs.Prelude.{List, [], ◌∷◌, ◌++◌, map, ◌⊎◌, ◌≡◌, refl, ℕ, zero, suc, ◌^◌, ◌<◌, length, take}
+use Rattle.std.specs.Prelude.{List, [], ◌∷◌, ◌++◌, map, ◌⊎◌, ◌≡◌, refl, ℕ, zero, suc, ◌^◌, ◌<◌, length, take, None, Some}
 use Rattle.std.proofs.Common.{append_assoc, append-nil, inl, inr, sym, ap, ap₂, ◌∙◌, arith, lt-ltb, drop_at}
-use Rattle.std.proofs.Math.Option.{some}
 use Rattle.std.proofs.lemmas.List.{length-map}
 use Rattle.number.specs.BeLaws.{Bytes}
 use Rattle.number.specs.PartLaws.{bytes_drop}
@@ -13,7 +12,6 @@ use Rattle.tape.proofs.EventsLaws.{AllOnTape}
 use Rattle.tape.specs.Item.{bad, numbered, of_kind, item_at, reading_of, read_at}
 use Rattle.tape.specs.Seven.{seven}
 use Rattle.tape.specs.Value.{number_from, number_at}
-use Rattle.tape.specs.declared.value.Value.TheVariants.{NoValue}
 use Rattle.written.specs.Graph.{Kind, arr, dic}
 use Rattle.written_claims.specs.Lengths.{TapePiece, event, given, bytes_in, tape_from, place_of, Formed, Malformed, shape_of}
 use Rattle.written_claims.proofs.NumeralLaws.{none_there, numeral_read}
@@ -30,10 +28,10 @@ Known p behind = ((m : Meaning) × EventIn p m) ⊎ (Malformed p × (read_at (by
 
 given_event : (k : Kind) (s : List ℕ) (n : ℕ) → n < 2 ^ 64 → s ≡ seven n → (m : Meaning) × EventIn (given k s) m
 unfolding bytes_in bytes_for shape_of unmeasured allowed
-given_event arr s n h e = (array (some n), record { held = (h, refl); is = rw e; shape = refl })
-given_event dic s n h e = (dictionary (some n), record { held = (h, refl); is = rw e; shape = refl })
+given_event arr s n h e = (array (Some n), record { held = (h, refl); is = rw e; shape = refl })
+given_event dic s n h e = (dictionary (Some n), record { held = (h, refl); is = rw e; shape = refl })
 
-given_bad : (k : Kind) (s behind : List ℕ) → number_from 1 (s ++ behind) ≡ NoValue → read_at (bytes_in (given k s) ++ behind) 0 ≡ bad
+given_bad : (k : Kind) (s behind : List ℕ) → number_from 1 (s ++ behind) ≡ None → read_at (bytes_in (given k s) ++ behind) 0 ≡ bad
 unfolding bytes_in read_at reading_of item_at of_kind numbered number_at
 given_bad arr s behind e = rw (lt-ltb 0 (suc (length (s ++ behind))) (omega arith), e)
 given_bad dic s behind e = rw (lt-ltb 0 (suc (length (s ++ behind))) (omega arith), e)
@@ -48,7 +46,7 @@ unfolding bytes_in shape_of
 known (event m) ps rest f good = inl (m, record { held = f.0; is = refl; shape = refl })
 known (given k s) ps rest f good = go (numeral_read _ s (tape_from ps rest) (none_there (tape_from ps rest)) f.0 (given_bytes k s (tape_from ps rest) good) 1)
   where
-    go : ((n : ℕ) × (n < 2 ^ 64) × (s ≡ seven n)) ⊎ (Malformed (given k s) × (number_from 1 (s ++ tape_from ps rest) ≡ NoValue)) → Known (given k s) (tape_from ps rest)
+    go : ((n : ℕ) × (n < 2 ^ 64) × (s ≡ seven n)) ⊎ (Malformed (given k s) × (number_from 1 (s ++ tape_from ps rest) ≡ None)) → Known (given k s) (tape_from ps rest)
     go (inl (n, h, e)) = inl (given_event k s n h e)
     go (inr (x, e)) = inr (x, given_bad k s (tape_from ps rest) e)
 

@@ -1,8 +1,7 @@
 -- WRONG WRITERS. The file that each would leave of some events, and that a claim about written files is false of it: the claims are those of
 -- Claims.antt, ReadBack.antt and ReadWhole.antt, with that file in the place of the events' file. So the theorem rules out the writer.
 use Rattle.std.proofs.Common.{true≢false, sym, ap, subst, ◌∙◌, arith, lit<, lit≤}
-use Rattle.std.specs.Prelude.{List, [], ◌∷◌, ◌++◌, ◌≡◌, refl, ℕ, ◌+◌, ◌*◌, ◌≤◌, ◌<◌, ℤ, pos, length, get_or, replicate}
-use Rattle.std.proofs.Math.Option.{none}
+use Rattle.std.specs.Prelude.{List, [], ◌∷◌, ◌++◌, ◌≡◌, refl, ℕ, ◌+◌, ◌*◌, ◌≤◌, ◌<◌, ℤ, pos, length, get_or, replicate, Some, None}
 use Rattle.event.specs.Format.{magic}
 use Rattle.event.specs.Meaning.{Meaning, array, dictionary, close, bytes, integer, real, text}
 use Rattle.event.specs.declared.Event.{Event}
@@ -12,7 +11,6 @@ use Rattle.layout.specs.Layout.{look_of}
 use Rattle.layout.specs.Looked.{faulty, Shape, scalar, container}
 use Rattle.layout.specs.Looked as looked
 use Rattle.layout.specs.Trailer.{ends, lays, trailer_of}
-use Rattle.layout.specs.declared.layout.Entry.TheVariants.{Of}
 use Rattle.layout.specs.declared.layout.Layout.{Layout}
 use Rattle.number.specs.Width.{bytes_in}
 use Rattle.number.specs.declared.width.Width.TheVariants.{One}
@@ -186,7 +184,7 @@ length_byte =
     breaks sixteen (laid 1 41) _ refl
     (λ claim.
     let x = claim 0 (lit< tt) in
-    let e : Of 8 ≡ Of x.at = x.entry in
+    let e : Some 8 ≡ Some x.at = x.entry in
     let a : x.at ≡ 8 = cc in
     let h : 0x14 ≤ 0x13 = ((rw a at x.marked) refl).1 in
     omega arith)
@@ -220,7 +218,7 @@ text_bytes_law s t e = let q : ◌≡◌ {A = ℕ} 0 1 = cc in omega arith
 
 -- {"a": 1} with key and value exchanged
 abbrev pair : List Meaning
-pair = dictionary none ∷ text (0x61 ∷ []) ∷ integer (pos 1) ∷ close ∷ []
+pair = dictionary None ∷ text (0x61 ∷ []) ∷ integer (pos 1) ∷ close ∷ []
 
 abbrev value_first : List ℕ
 value_first = file (0xD1 ∷ 0x02 ∷ 0x01 ∷ 0x51 ∷ 0x61 ∷ 0x10 ∷ 0x01 ∷ 0x08 ∷ 0x0B ∷ 0x0D ∷ []) 3 0 15
@@ -231,7 +229,7 @@ exchanged b = integer_text (pos 1) (0x61 ∷ []) (ap (λ (ms : List Meaning). ge
 
 -- ["a", the data 61] with both as one object
 abbrev text_and_data : List Meaning
-text_and_data = array none ∷ text (0x61 ∷ []) ∷ bytes (0x61 ∷ []) ∷ close ∷ []
+text_and_data = array None ∷ text (0x61 ∷ []) ∷ bytes (0x61 ∷ []) ∷ close ∷ []
 
 abbrev one_for_both : List ℕ
 one_for_both = file (0xA2 ∷ 0x01 ∷ 0x01 ∷ 0x51 ∷ 0x61 ∷ 0x08 ∷ 0x0B ∷ []) 2 0 13
@@ -274,7 +272,7 @@ ascii_as_utf16 claim =
     omega arith
 
 -- [1] with its element named twice: the budget is used up before the end
-pub member_twice : Transcribed (file (0xA2 ∷ 0x01 ∷ 0x01 ∷ 0x10 ∷ 0x01 ∷ 0x08 ∷ 0x0B ∷ []) 2 0 13) (array none ∷ integer (pos 1) ∷ close ∷ []) → ⊥
+pub member_twice : Transcribed (file (0xA2 ∷ 0x01 ∷ 0x01 ∷ 0x10 ∷ 0x01 ∷ 0x08 ∷ 0x0B ∷ []) 2 0 13) (array None ∷ integer (pos 1) ∷ close ∷ []) → ⊥
 unfolding computed
 member_twice claim =
     let h = claim 4 [] (replicate 7 0) (lit< tt) (lit≤ tt) (lit≤ tt) in

@@ -1,6 +1,5 @@
 -- Events with their lengths filled in, and the answers that a reader is to give for them.
-use Rattle.std.specs.Prelude.{List, [], ◌∷◌, map, ℕ, suc, ◌/◌, length}
-use Rattle.std.proofs.Math.Option.{some}
+use Rattle.std.specs.Prelude.{List, [], ◌∷◌, map, ℕ, suc, ◌/◌, length, Some}
 use Rattle.event.specs.Meaning.{Meaning, array, dictionary, close, boolean, bytes, date, integer, real, text, uid}
 use Rattle.event.specs.declared.Event.{Event}
 use Rattle.event.specs.declared.Event.TheVariants.{EndCollection}
@@ -20,8 +19,8 @@ members ms = length (kids 0 0 (map piece_of ms))
 -- a container has its number of elements or of pairs, whatever was given
 unfoldable pub filled : List Meaning → List Meaning
 filled [] = []
-filled (array given ∷ ms) = array (some (members ms)) ∷ filled ms
-filled (dictionary given ∷ ms) = dictionary (some (members ms / 2)) ∷ filled ms
+filled (array given ∷ ms) = array (Some (members ms)) ∷ filled ms
+filled (dictionary given ∷ ms) = dictionary (Some (members ms / 2)) ∷ filled ms
 filled (close ∷ ms) = close ∷ filled ms
 filled (boolean b ∷ ms) = boolean b ∷ filled ms
 filled (bytes s ∷ ms) = bytes s ∷ filled ms
@@ -35,8 +34,8 @@ filled (uid n ∷ ms) = uid n ∷ filled ms
 unfoldable pub handed_from : (Name → ℕ) → ℕ → List ℕ → List Piece → List Put
 handed_from at n ps [] = []
 handed_from at n ps (graph.scalar s ∷ es) = record { meaning = meant s; offset = at (val s) } ∷ handed_from at (suc n) ps es
-handed_from at n ps (start arr ∷ es) = record { meaning = array (some (length (kids 0 (suc n) es))); offset = at (box n) } ∷ handed_from at (suc n) (n ∷ ps) es
-handed_from at n ps (start dic ∷ es) = record { meaning = dictionary (some (length (kids 0 (suc n) es) / 2)); offset = at (box n) } ∷ handed_from at (suc n) (n ∷ ps) es
+handed_from at n ps (start arr ∷ es) = record { meaning = array (Some (length (kids 0 (suc n) es))); offset = at (box n) } ∷ handed_from at (suc n) (n ∷ ps) es
+handed_from at n ps (start dic ∷ es) = record { meaning = dictionary (Some (length (kids 0 (suc n) es) / 2)); offset = at (box n) } ∷ handed_from at (suc n) (n ∷ ps) es
 handed_from at n [] (end ∷ es) = []
 handed_from at n (p ∷ ps) (end ∷ es) = record { meaning = close; offset = at (box p) } ∷ handed_from at (suc n) ps es
 

@@ -1,6 +1,6 @@
 -- The written file's layout: where its objects, its table and its trailer stand.
 use mathlib.Core.List.{List, ◌++◌, map, append_assoc}
-use Rattle.std.specs.Prelude.{◌≡◌, ℕ, ◌+◌, ◌*◌, ◌-◌, ◌^◌, ◌≤◌, ◌<◌}
+use Rattle.std.specs.Prelude.{◌≡◌, ℕ, ◌+◌, ◌*◌, ◌-◌, ◌^◌, ◌≤◌, ◌<◌, Some}
 use Rattle.std.proofs.Math.Path.{sym, ap}
 use Rattle.std.proofs.Common.{◌∙◌, arith, lit<}
 use Rattle.std.proofs.Math.ListN.{length, get_or, length-append, length-map}
@@ -11,7 +11,6 @@ use Rattle.event.specs.Format.{magic, max_length}
 use Rattle.object.specs.Content.{trailer_at}
 use Rattle.layout.specs.Layout.{entry_at}
 use Rattle.layout.specs.Trailer.{lays, trailer_of}
-use Rattle.layout.specs.declared.layout.Entry.TheVariants.{Of}
 use Rattle.layout.specs.declared.layout.Layout.{Layout}
 use Rattle.written.proofs.EmissionLaws.{numbered_written}
 use Rattle.written.specs.Encoding.{trailer_bytes}
@@ -100,10 +99,10 @@ module _ (es : List Piece) where
     places_small = below_map (256 ^ offset_size es) (place_of es) (order es) (λ x h. omega (arith, (object_there x h).ends, fits_itself (table_at es) (omega (arith, near))))
 
     -- the table gives each object's place
-    pub entry : (x : Name) → In x (order es) → entry_at (file_of es) layout_of (number es x) ≡ Of (place_of es x)
+    pub entry : (x : Name) → In x (order es) → entry_at (file_of es) layout_of (number es x) ≡ Some (place_of es x)
     unfolding table
     entry x h =
         let lt = number_lt es x h in
         let places = map (place_of es) (order es) in
         let g : get_or places (number es x) 0 ≡ place_of es x = get_d_map_lt (place_of es) (order es) (number es x) x 0 lt ∙ ap (place_of es) (order_at es x x h) in
-        table_reads (file_of es) layout_of places (number es x) (rw offsets_size places_small) (rw length-map lt) (rw offsets_size stands_table) ∙ ap Of g
+        table_reads (file_of es) layout_of places (number es x) (rw offsets_size places_small) (rw length-map lt) (rw offsets_size stands_table) ∙ ap Some g

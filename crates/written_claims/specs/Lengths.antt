@@ -1,6 +1,5 @@
 -- Tapes that differ in given lengths alone, and what the writer may answer to two of them. docs/FORMAT.md, rules T1 to T3.
-use Rattle.std.specs.Prelude.{Bool, cond, true, List, [], ◌∷◌, ◌++◌, map, ◌≡◌, ℕ, ◌+◌, ◌^◌, ◌<◌, ltb, eqb, length, get_or, take}
-use Rattle.std.proofs.Math.Option.{none}
+use Rattle.std.specs.Prelude.{Bool, cond, true, List, [], ◌∷◌, ◌++◌, map, ◌≡◌, ℕ, ◌+◌, ◌^◌, ◌<◌, ltb, eqb, length, get_or, take, None}
 use Rattle.event.specs.Format.{max_length}
 use Rattle.event.specs.Meaning.{Meaning, array, dictionary, close}
 use Rattle.event.specs.Unmeasured.{unmeasured}
@@ -49,8 +48,8 @@ Malformed (given k s) = (n : ℕ) → n < 2 ^ 64 → s ≡ seven n → ⊥
 -- a piece without its length
 unfoldable pub shape_of : TapePiece → Meaning
 shape_of (event m) = unmeasured m
-shape_of (given arr s) = array none
-shape_of (given dic s) = dictionary none
+shape_of (given arr s) = array None
+shape_of (given dic s) = dictionary None
 
 -- two tapes with the same pieces but for given lengths, and the same rest
 pub record LengthsApart (s t : List ℕ) : Type 0 where

@@ -1,5 +1,5 @@
 -- Numbers of one width, one after the other: references, and the entries of the offset table.
-use Rattle.std.specs.Prelude.{List, [], ◌∷◌, ◌≡◌, ℕ, zero, suc, ◌+◌, ◌*◌, ◌^◌, ◌≤◌, ◌<◌, length, get_or}
+use Rattle.std.specs.Prelude.{List, [], ◌∷◌, ◌≡◌, ℕ, zero, suc, ◌+◌, ◌*◌, ◌^◌, ◌≤◌, ◌<◌, length, get_or, Some}
 use Rattle.std.proofs.Common.{suc-mul, zero-mul, add-zero, arith, le-leb}
 use Rattle.number.specs.Be.{bytes_of}
 use Rattle.number.specs.BeLaws.{length_bytes_of}
@@ -8,7 +8,6 @@ use Rattle.number.specs.WidthLaws.{bytes_in_pos}
 use Rattle.number.specs.declared.width.Width.{Width}
 use Rattle.utf.specs.Bounds.{Below}
 use Rattle.layout.specs.Layout.{number_at}
-use Rattle.layout.specs.declared.layout.Entry.TheVariants.{Of}
 use Rattle.written_claims.specs.Stands.{Stands, stands_front, stands_back, stands_inside, stands_number}
 use Rattle.written.specs.Encoding.{numbers_bytes}
 
@@ -29,7 +28,7 @@ numbers_stand file w at (n ∷ ns) (suc i) h st =
 
 -- and is read there
 pub numbers_read : (file : List ℕ) (w : Width) (at : ℕ) (ns : List ℕ) (i : ℕ) → Below (256 ^ bytes_in w) ns → i < length ns
-    → Stands file at (numbers_bytes (bytes_in w) ns) → number_at file w (at + i * bytes_in w) ≡ Of (get_or ns i 0)
+    → Stands file at (numbers_bytes (bytes_in w) ns) → number_at file w (at + i * bytes_in w) ≡ Some (get_or ns i 0)
 unfolding number_at
 numbers_read file w at ns i b h st =
     let k = bytes_in w in

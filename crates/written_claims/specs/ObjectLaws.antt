@@ -1,5 +1,5 @@
 -- An object that stands in a file is shown by it.
-use Rattle.std.specs.Prelude.{List, ◌≡◌, refl, ℕ, ◌<◌, length}
+use Rattle.std.specs.Prelude.{List, ◌≡◌, refl, ℕ, ◌<◌, length, Some}
 use Rattle.std.proofs.Math.Logic.{inl, inr}
 use Rattle.std.proofs.Common.{◌∙◌, arith, length-append}
 use Rattle.number.specs.Width.{bytes_in}
@@ -15,7 +15,6 @@ use Rattle.layout.specs.Looked.{scalar}
 use Rattle.layout.specs.FoundLaws.{sound, plain_asked}
 use Rattle.layout.specs.LookLaws.{BytesRight, bare_plain, look_right}
 use Rattle.layout.specs.Bytes.{no_bytes, data_asked, text_asked, event_asked, has_bytes}
-use Rattle.layout.specs.declared.layout.Entry.TheVariants.{Of}
 use Rattle.layout.specs.declared.layout.Layout.{Layout}
 use Rattle.reader.specs.Meanings.{bytes_asked, meaning_at}
 use Rattle.written.specs.Encoding.{Object, lone, list, pairs, object_bytes}
@@ -33,7 +32,7 @@ object_pos v w (lone m) h = scalar_pos m h.0
 object_pos v w (list refs) h = rw length-append (omega (arith, head_pos 0xA0 (length refs)))
 object_pos v w (pairs keys values) h = rw length-append (omega (arith, head_pos 0xD0 (length keys)))
 
-module _ (file : List ℕ) (l : Layout) (n at : ℕ) (numbered : n < l.count) (entry : entry_at file l n ≡ Of at) where
+module _ (file : List ℕ) (l : Layout) (n at : ℕ) (numbered : n < l.count) (entry : entry_at file l n ≡ Some at) where
   scalar_shown : (m : Meaning) → Reads file at m → Looks file (source_of file l) n at m
   unfolding source_of look_in meaning_at meaning_of bytes_asked event_asked data_asked text_asked has_bytes
   scalar_shown m r = go r.there r.is r.says

@@ -1,20 +1,18 @@
 -- The size of a number as a width, and numbers below a bound.
-use Rattle.std.specs.Prelude.{List, [], ◌∷◌, map, ◌≡◌, refl, ℕ, ◌*◌, ◌≤◌, ◌<◌}
+use Rattle.std.specs.Prelude.{List, [], ◌∷◌, map, ◌≡◌, refl, ℕ, ◌*◌, ◌≤◌, ◌<◌, None, Option, Some}
 use Rattle.std.proofs.Common.{arith}
 use Rattle.number.specs.Size.{size_of}
 use Rattle.number.specs.SizeLaws.{Sized, one, two, four, eight, sized}
 use Rattle.number.specs.Width.{bytes_in, width_of}
-use Rattle.number.specs.declared.width.Size.TheVariants.{Allowed, NotAllowed}
-use Rattle.number.specs.declared.width.Size.{Size}
 use Rattle.number.specs.declared.width.Width.TheVariants.{One, Two, Three, Four, Eight}
 use Rattle.number.specs.declared.width.Width.{Width}
 use Rattle.utf.specs.Bounds.{Below}
 use Rattle.written.specs.Graph.{Name}
 use Rattle.written.proofs.NameLaws.{In, in_here, in_there}
 
-unfoldable pub as_width : Size → Width
-as_width (Allowed w) = w
-as_width NotAllowed = Eight
+unfoldable pub as_width : Option Width → Width
+as_width (Some w) = w
+as_width None = Eight
 
 unfoldable pub width_for : ℕ → Width
 width_for n = as_width (width_of (size_of n))

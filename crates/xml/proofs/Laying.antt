@@ -1,10 +1,10 @@
 -- Where the loop over a tape's events stands, and what one turn does to what is left of it.
 use mathlib.Core.Bool.{Bool, true, false, false≢true}
 use mathlib.Core.List.{List, [], ◌∷◌, ◌++◌}
-use mathlib.Core.Option.{Option, none, some}
 use mathlib.Core.Path.{◌≡◌, refl, sym, ap, ◌∙◌}
 use Prim.Native.Nat.{ℕ, ◌+◌, ◌-◌, ◌*◌, ◌≤◌, ◌<◌}
 use native.Mathlib.Omega.{arith}
+use Rattle.std.specs.Prelude.{Ok, Err, None, Option, Some}
 use lib.Dec.{leb, eqb}
 use lib.ListN.{length, set, get_or, take, drop, length-set, length-append, length-drop, take-append-drop}
 use lib.Seq.{sets, length-take-le, drop-drop, drop_at}
@@ -12,7 +12,8 @@ use Rattle.digits.specs.Put.{Written}
 use Rattle.digits.specs.PutLaws.{written_append}
 use Rattle.event.specs.Format.{max_length, max_open}
 use Rattle.event.specs.Meaning.{Meaning, array, dictionary, close, boolean, bytes, date, integer, real, text, uid}
-use Rattle.grammar.proofs.Stack.{stack, length_stack, stack_push, stack_pop}
+use Rattle.grammar.proofs.Stack.{length_stack, stack_push, stack_pop}
+use Rattle.grammar.specs.Stack.{stack}
 use Rattle.grammar.specs.Check.{onto, barred, move_of}
 use Rattle.grammar.specs.Fits.{fits_from}
 use Rattle.grammar.specs.FitsLaws.{check_whole}
@@ -44,9 +45,7 @@ use Rattle.xml.specs.Said.{bar_number}
 use Rattle.xml.specs.Write.{Said, bar_of, by_events}
 use Rattle.xml.specs.Xml.{line_for, lines_from}
 use Rattle.xml.specs.declared.answer.Bar.{Bar}
-use Rattle.xml.specs.declared.lines.Lines.TheVariants.{End as EndOf, Barred as BarredAt}
 use Rattle.xml.specs.declared.lines.Told.{Told}
-use Rattle.xml.specs.declared.put.Line.TheVariants.{End, Barred}
 
 -- the lines of all events
 abbrev all : List ℕ → List ℕ
@@ -102,7 +101,7 @@ module _ {tape before : List ℕ} {from : ℕ} {around : List Due} {depth : ℕ}
   is_small_law = omega (arith, s.small, s.within, s.short, s.low)
 
   -- at the tape's end
-  ends : (left : List Meaning) → Leaves tape before from (stack depth around) due at to out left → length tape ≤ at → Laid tape before from out (EndOf to)
+  ends : (left : List Meaning) → Leaves tape before from (stack depth around) due at to out left → length tape ≤ at → Laid tape before from out (Ok to)
   unfolding by_events lines_from lines_said tape_of
   ends [] l h = record {
     answer = l.answer;
@@ -115,7 +114,7 @@ module _ {tape before : List ℕ} {from : ℕ} {around : List Due} {depth : ℕ}
       rest_length : Leaves tape before from (stack depth around) due at to out (m ∷ ms) → length tape - at ≡ length (bytes_for m) + length (tape_of ms)
       rest_length l = sym (length-drop at tape) ∙ ap length l.rest ∙ length-append (bytes_for m) (tape_of ms)
 
-  pub is_ended : length tape ≤ at → Laid tape before from out (EndOf to)
+  pub is_ended : length tape ≤ at → Laid tape before from out (Ok to)
   is_ended h = ends s.left s.leaves h
 
   first_left : (left : List Meaning) → Leaves tape before from (stack depth around) due at to out left → at < length tape → (m : Meaning) × (ms : List Meaning) × Leaves tape before from (stack depth around) due at to out (m ∷ ms)
@@ -244,15 +243,15 @@ module _ {tape before : List ℕ} {from : ℕ} {around : List Due} {depth : ℕ}
   lined = x.tells.line m (at + length (bytes_for m)) (reads x.stands x.inside)
 
   -- an event that has no line
-  pub is_barred : {b : Bar} → t.line ≡ Barred b → Laid tape before from after (BarredAt b at)
+  pub is_barred : {b : Bar} → t.line ≡ Err b → Laid tape before from after (Err (b, at))
   unfolding lines_said by_events
   is_barred {b} e = go (bar_of m) refl
     where
-      go : (o : Option ℕ) → bar_of m ≡ o → Laid tape before from after (BarredAt b at)
-      go none f = absurd (let w : Barred b ≡ End (lined.stands f).end = sym e ∙ (lined.stands f).is in let z : ◌≡◌ {A = ℕ} 0 1 = cc in omega arith)
-      go (some k) f =
+      go : (o : Option ℕ) → bar_of m ≡ o → Laid tape before from after (Err (b, at))
+      go None f = absurd (let w : Err b ≡ Ok (lined.stands f).end = sym e ∙ (lined.stands f).is in let z : ◌≡◌ {A = ℕ} 0 1 = cc in omega arith)
+      go (Some k) f =
           let y = lined.bars k f in
-          let w : Barred b ≡ Barred y.0 = sym e ∙ y.1 in
+          let w : Err b ≡ Err y.0 = sym e ∙ y.1 in
           let g : b ≡ y.0 = cc in
           let n : bar_number b ≡ k = rw g y.2 in
           record {
@@ -264,20 +263,20 @@ module _ {tape before : List ℕ} {from : ℕ} {around : List Due} {depth : ℕ}
 
   -- one that has one
   record Put (n : ℕ) : Type 0 where
-    bar : bar_of m ≡ none
+    bar : bar_of m ≡ None
     end : n ≡ to + length (line_for due m)
     memory : to + length (line_for due m) ≤ length out → after ≡ sets out to (line_for due m)
 
-  puts : {n : ℕ} → t.line ≡ End n → Put n
+  puts : {n : ℕ} → t.line ≡ Ok n → Put n
   puts {n} e = go (bar_of m) refl
     where
       go : (o : Option ℕ) → bar_of m ≡ o → Put n
-      go none f =
+      go None f =
           let p = lined.stands f in
-          let w : End n ≡ End p.end = sym e ∙ p.is in
+          let w : Ok n ≡ Ok p.end = sym e ∙ p.is in
           let g : n ≡ p.end = cc in
           record { bar = f; end = g ∙ p.placed.place; memory = p.placed.memory }
-      go (some k) f = absurd (let y = lined.bars k f in let w : End n ≡ Barred y.0 = sym e ∙ y.1 in let z : ◌≡◌ {A = ℕ} 0 1 = cc in omega arith)
+      go (Some k) f = absurd (let y = lined.bars k f in let w : Ok n ≡ Err y.0 = sym e ∙ y.1 in let z : ◌≡◌ {A = ℕ} 0 1 = cc in omega arith)
 
   -- the event isn't refused, so that the way is its move
   move : move_by (way_of due depth m) (stack depth around) ≡ move_of (turn_of due m) due (stack depth around)
@@ -295,7 +294,7 @@ module _ {tape before : List ℕ} {from : ℕ} {around : List Due} {depth : ℕ}
   moves : move_by t.way (stack depth around) ≡ move_of (turn_of due m) due (stack depth around)
   moves = ap (λ (w : Way). move_by w (stack depth around)) way_is ∙ move
 
-  leads : {n : ℕ} → t.line ≡ End n → (d : Due) (k : ℕ) (l : List Due) → move_by t.way (stack depth around) ≡ onto d (stack k l) → k ≤ max_open → length l ≡ max_open → Stands tape before from l k d t.next n after
+  leads : {n : ℕ} → t.line ≡ Ok n → (d : Due) (k : ℕ) (l : List Due) → move_by t.way (stack depth around) ≡ onto d (stack k l) → k ≤ max_open → length l ≡ max_open → Stands tape before from l k d t.next n after
   unfolding fits_from lines_from by_events
   leads {n} e d k l v shallow long =
       let p = puts e in
@@ -329,7 +328,7 @@ module _ {tape before : List ℕ} {from : ℕ} {around : List Due} {depth : ℕ}
   pub is_stopped : {r : Refusal} → t.way ≡ NoWay r → ⊥
   is_stopped {r} e = passes r (sym way_is ∙ e)
 
-  pub is_past : {n : ℕ} {d : Due} → t.line ≡ End n → t.way ≡ Past d → Stands tape before from around depth d t.next n after
+  pub is_past : {n : ℕ} {d : Due} → t.line ≡ Ok n → t.way ≡ Past d → Stands tape before from around depth d t.next n after
   unfolding move_by
   is_past {d = d} f e = leads f d depth around (rw e) x.stands.shallow x.stands.long
 
@@ -341,7 +340,7 @@ module _ {tape before : List ℕ} {from : ℕ} {around : List Due} {depth : ℕ}
   pub is_room : {d behind : Due} → t.way ≡ Into d behind → depth < max_open
   is_room e = rw e at told_depth
 
-  pub is_into : {n : ℕ} {d after_it : Due} → t.line ≡ End n → t.way ≡ Into d after_it → Stands tape before from (set around depth after_it) (depth + 1) d t.next n after
+  pub is_into : {n : ℕ} {d after_it : Due} → t.line ≡ Ok n → t.way ≡ Into d after_it → Stands tape before from (set around depth after_it) (depth + 1) d t.next n after
   unfolding move_by
   is_into {d = d} {after_it = y} f e =
       let room = is_room e in
@@ -351,6 +350,6 @@ module _ {tape before : List ℕ} {from : ℕ} {around : List Due} {depth : ℕ}
   pub is_open : t.way ≡ Out → depth ≡ 0 → ⊥
   is_open e = rw e at told_depth
 
-  pub is_out : {n : ℕ} → t.line ≡ End n → t.way ≡ Out → Stands tape before from around (depth - 1) (get_or around (depth - 1) Root) t.next n after
+  pub is_out : {n : ℕ} → t.line ≡ Ok n → t.way ≡ Out → Stands tape before from around (depth - 1) (get_or around (depth - 1) Root) t.next n after
   unfolding move_by
   is_out f e = leads f (get_or around (depth - 1) Root) (depth - 1) around (rw (e, stack_pop depth around (is_open e), move_by)) (omega (arith, x.stands.shallow)) x.stands.long

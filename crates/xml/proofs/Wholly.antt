@@ -3,6 +3,7 @@ use mathlib.Core.List.{List, [], ◌++◌}
 use mathlib.Core.Path.{◌≡◌, refl, sym, ap, ◌∙◌}
 use Prim.Native.Nat.{ℕ, ◌+◌, ◌≤◌, ◌<◌}
 use native.Mathlib.Omega.{arith}
+use Rattle.std.specs.Prelude.{Result, Ok, Err}
 use lib.ListN.{length, length-append}
 use lib.Seq.{sets}
 use Rattle.digits.specs.Put.{Written}
@@ -23,8 +24,6 @@ use Rattle.xml.specs.Write.{Said, long, refused, by_events, by_check, measured_o
 use Rattle.xml.specs.WriteLaws.{room_enough, room_short, room_refused, accepted, output_refused}
 use Rattle.xml.specs.Xml.{lines_from, xml_of}
 use Rattle.xml.specs.declared.answer.Bar.{Bar}
-use Rattle.xml.specs.declared.lines.Lines.{Lines}
-use Rattle.xml.specs.declared.lines.Lines.TheVariants.{End, Barred}
 
 header_long : length header ≡ 164
 unfolding header declaration doctype plist
@@ -39,7 +38,7 @@ unfolding xml_of
 xml_long ms = omega (arith, length-append header (lines_from Root [] ms ++ footer), length-append (lines_from Root [] ms) footer, header_long, footer_long)
 
 -- what was laid is written, where it ends within the memory
-pub laid_written : {tape before : List ℕ} {from : ℕ} {after : List ℕ} {r : Lines} {end : ℕ} → Laid tape before from after r → r ≡ End end → end ≤ length before → Written before from (lines_from Root [] (meanings_in tape)) after end
+pub laid_written : {tape before : List ℕ} {from : ℕ} {after : List ℕ} {r : Result ℕ (Bar × ℕ)} {end : ℕ} → Laid tape before from after r → r ≡ Ok end → end ≤ length before → Written before from (lines_from Root [] (meanings_in tape)) after end
 laid_written {end = end} l e h = record { place = l.place end e; memory = l.memory end e h }
 
 -- the parts, one behind the other
@@ -66,26 +65,26 @@ module _ (tape : List ℕ) where
   unfolding measured_of by_check
   measured_by root = rw root.whole
 
-  module _ {before : List ℕ} {from : ℕ} {after : List ℕ} {r : Lines} (root : Rooted tape) (l : Laid tape before from after r) where
+  module _ {before : List ℕ} {from : ℕ} {after : List ℕ} {r : Result ℕ (Bar × ℕ)} (root : Rooted tape) (l : Laid tape before from after r) where
     laid_said : lines_said r (long (length (xml_of (meanings_in tape)))) ≡ measured_of tape
     laid_said = l.answer _ ∙ sym (measured_by root)
 
     -- the lines end behind a header, and the footer is to follow
-    pub is_measured : {end : ℕ} → from ≡ 164 → r ≡ End end → long (end + 9) ≡ measured_of tape
+    pub is_measured : {end : ℕ} → from ≡ 164 → r ≡ Ok end → long (end + 9) ≡ measured_of tape
     unfolding lines_said
     is_measured {end} f e =
         let n : end + 9 ≡ length (xml_of (meanings_in tape)) = omega (arith, xml_long (meanings_in tape), l.place end e, f) in
-        ap long n ∙ ap (λ (y : Lines). lines_said y (long (length (xml_of (meanings_in tape))))) (sym e) ∙ laid_said
+        ap long n ∙ ap (λ (y : Result ℕ (Bar × ℕ)). lines_said y (long (length (xml_of (meanings_in tape))))) (sym e) ∙ laid_said
 
-    pub is_barred : {b : Bar} {place : ℕ} → r ≡ Barred b place → refused (bar_number b) [] place ≡ measured_of tape
+    pub is_barred : {b : Bar} {place : ℕ} → r ≡ Err (b, place) → refused (bar_number b) [] place ≡ measured_of tape
     unfolding lines_said
-    is_barred e = ap (λ (y : Lines). lines_said y (long (length (xml_of (meanings_in tape))))) (sym e) ∙ laid_said
+    is_barred e = ap (λ (y : Result ℕ (Bar × ℕ)). lines_said y (long (length (xml_of (meanings_in tape))))) (sym e) ∙ laid_said
 
   -- where no event is barred, none is
-  pub laid_once : {before : List ℕ} {from : ℕ} {after : List ℕ} {r : Lines} {b : Bar} {place : ℕ} → Laid tape before from after r → r ≡ Barred b place → Unbarred tape → ⊥
+  pub laid_once : {before : List ℕ} {from : ℕ} {after : List ℕ} {r : Result ℕ (Bar × ℕ)} {b : Bar} {place : ℕ} → Laid tape before from after r → r ≡ Err (b, place) → Unbarred tape → ⊥
   unfolding lines_said
   laid_once {b = b} {place = place} l e u =
-      let w : refused (bar_number b) [] place ≡ long 0 = ap (λ (y : Lines). lines_said y (long 0)) (sym e) ∙ l.answer (long 0) ∙ u.none (long 0) in
+      let w : refused (bar_number b) [] place ≡ long 0 = ap (λ (y : Result ℕ (Bar × ℕ)). lines_said y (long 0)) (sym e) ∙ l.answer (long 0) ∙ u.none (long 0) in
       let z : ◌≡◌ {A = ℕ} 0 1 = cc in
       omega arith
 

@@ -1,6 +1,5 @@
 -- Whole XML and refusals, computed.
-use Rattle.std.specs.Prelude.{true, List, [], ◌∷◌, ◌++◌, map, ◌≡◌, refl, ℕ, pos, negsuc}
-use Rattle.std.proofs.Math.Option.{none, some}
+use Rattle.std.specs.Prelude.{true, List, [], ◌∷◌, ◌++◌, map, ◌≡◌, refl, ℕ, pos, negsuc, None, Some}
 use Rattle.digits.specs.Ascii.{ascii}
 use Rattle.event.specs.Meaning.{Meaning, array, dictionary, close, boolean, bytes, date, integer, text}
 use Rattle.grammar.specs.declared.answer.EventKind.TheVariants.{DictionaryKeyOrEndCollection, Integer}
@@ -14,7 +13,7 @@ use Rattle.grammar.specs.declared.turn.Due.TheVariants.{Root}
 -- the record of a hold: the example of docs/FORMAT.md, part X
 abbrev pub record_events : List Meaning
 record_events =
-    dictionary none ∷
+    dictionary None ∷
     text (ascii "matter") ∷
     text (ascii "Roe & Coe <sealed>") ∷
     text (ascii "until") ∷
@@ -26,7 +25,7 @@ record_events =
     text (ascii "hold") ∷
     boolean true ∷
     text (ascii "notes") ∷
-    array (some 0) ∷
+    array (Some 0) ∷
     close ∷
     close ∷
     []
@@ -66,7 +65,7 @@ unfolding computed
 record_room = (refl, refl)
 
 -- the ends of integers, and empty data and text
-pub ends : lines_from Root [] (array none ∷ integer (negsuc 0x7FFF_FFFF_FFFF_FFFF) ∷ integer (pos 0xFFFF_FFFF_FFFF_FFFF) ∷ bytes [] ∷ text [] ∷ close ∷ []) ≡ ascii "<array>\n<integer>-9223372036854775808</integer>\n<integer>18446744073709551615</integer>\n<data></data>\n<string></string>\n</array>\n"
+pub ends : lines_from Root [] (array None ∷ integer (negsuc 0x7FFF_FFFF_FFFF_FFFF) ∷ integer (pos 0xFFFF_FFFF_FFFF_FFFF) ∷ bytes [] ∷ text [] ∷ close ∷ []) ≡ ascii "<array>\n<integer>-9223372036854775808</integer>\n<integer>18446744073709551615</integer>\n<data></data>\n<string></string>\n</array>\n"
 unfolding computed
 ends = refl
 

@@ -1,7 +1,6 @@
 -- An event's line, or that it has none; and how long it is at most.
-use Rattle.std.specs.Prelude.{Bool, List, ◌≡◌, ℕ, ◌+◌, ◌*◌, ◌≤◌, pos, negsuc, length}
+use Rattle.std.specs.Prelude.{Bool, List, ◌≡◌, ℕ, ◌+◌, ◌*◌, ◌≤◌, pos, negsuc, length, Result, Err, None, Some}
 use Rattle.std.proofs.Math.Bool.{true, false}
-use Rattle.std.proofs.Math.Option.{none, some}
 use Rattle.std.proofs.Math.Path.{refl}
 use Rattle.std.proofs.Common.{sym, ◌∙◌, arith, length-append}
 use Rattle.radix64.specs.Base64.{base64}
@@ -29,42 +28,40 @@ use Rattle.xml.specs.Write.{bar_of, date_bar}
 use Rattle.xml.specs.Xml.{start_tag, end_tag, empty_tag, line, element, escape, day_of, is_key, truth, closed, worded, line_for}
 use Rattle.xml.specs.declared.answer.Bar.{Bar}
 use Rattle.xml.specs.declared.answer.Bar.TheVariants.{NoCharacter, NoDay}
-use Rattle.xml.specs.declared.put.Line.{Line}
-use Rattle.xml.specs.declared.put.Line.TheVariants.{Barred}
 
 -- ---- lines
 
-not_some : (n : ℕ) → none ≡ some n → ⊥
+not_some : (n : ℕ) → None ≡ Some n → ⊥
 not_some n e = let z : ◌≡◌ {A = ℕ} 0 1 = cc in omega arith
 
 module _ (l : List ℕ) (at : ℕ) (m : List ℕ) where
   -- a date that has a day and time
-  pub dayed_there : (bits : ℕ) (t : Time) (r : Line) → calendar_of bits ≡ calendar.gives t → Puts l at (element word_date (stamp t)) m r → Dayed l at bits m r
+  pub dayed_there : (bits : ℕ) (t : Time) (r : Result ℕ Bar) → calendar_of bits ≡ calendar.gives t → Puts l at (element word_date (stamp t)) m r → Dayed l at bits m r
   unfolding date_bar day_of
   dayed_there bits t r e w = record { stands = λ h. rw e w; bars = λ n h. absurd (not_some n (rw e at h)) }
 
   -- and one that has none
-  pub dayed_none : (bits : ℕ) → calendar_of bits ≡ calendar.refused 30 → Dayed l at bits m (Barred NoDay)
+  pub dayed_none : (bits : ℕ) → calendar_of bits ≡ calendar.refused 30 → Dayed l at bits m (Err NoDay)
   unfolding date_bar day_of bar_number
   dayed_none bits e = record {
     stands = λ h. absurd (not_some 30 (sym (rw e at h)));
-    bars = λ n h. let g : some 30 ≡ some n = rw e at h in let k : 30 ≡ n = cc in (NoDay, refl, k);
+    bars = λ n h. let g : Some 30 ≡ Some n = rw e at h in let k : 30 ≡ n = cc in (NoDay, refl, k);
   }
 
-  pub lined_puts : (due : Due) (v : Meaning) (r : Line) → bar_of v ≡ none → Puts l at (line_for due v) m r → Lined l at due v m r
+  pub lined_puts : (due : Due) (v : Meaning) (r : Result ℕ Bar) → bar_of v ≡ None → Puts l at (line_for due v) m r → Lined l at due v m r
   lined_puts due v r e w = record { stands = λ h. w; bars = λ n h. absurd (not_some n (sym e ∙ h)) }
 
-  pub lined_bars : (due : Due) (v : Meaning) (b : Bar) → bar_of v ≡ some (bar_number b) → Lined l at due v m (Barred b)
+  pub lined_bars : (due : Due) (v : Meaning) (b : Bar) → bar_of v ≡ Some (bar_number b) → Lined l at due v m (Err b)
   lined_bars due v b e = record {
     stands = λ h. absurd (not_some (bar_number b) (sym h ∙ e));
-    bars = λ n h. let g : some (bar_number b) ≡ some n = sym e ∙ h in let k : bar_number b ≡ n = cc in (b, refl, k);
+    bars = λ n h. let g : Some (bar_number b) ≡ Some n = sym e ∙ h in let k : bar_number b ≡ n = cc in (b, refl, k);
   }
 
-  pub lined_date : (due : Due) (bits : ℕ) (r : Line) → Dayed l at bits m r → Lined l at due (date bits) m r
+  pub lined_date : (due : Due) (bits : ℕ) (r : Result ℕ Bar) → Dayed l at bits m r → Lined l at due (date bits) m r
   unfolding bar_of line_for
   lined_date due bits r w = record { stands = w.stands; bars = w.bars }
 
-  pub lined_text : (due : Due) (s : List ℕ) (r : Line) → is_utf8 s ≡ true → Worded l at (is_key due) s m r → Lined l at due (text s) m r
+  pub lined_text : (due : Due) (s : List ℕ) (r : Result ℕ Bar) → is_utf8 s ≡ true → Worded l at (is_key due) s m r → Lined l at due (text s) m r
   unfolding bar_of line_for bar_number
   lined_text due s r u w = go (barred_in s) refl
     where

@@ -1,5 +1,5 @@
 -- The lines of a tape's events put into lent memory from a place on.
-use Rattle.std.specs.Prelude.{List, [], ◌≡◌, ℕ, ◌+◌, ◌≤◌, ◌<◌, length}
+use Rattle.std.specs.Prelude.{List, [], ◌≡◌, ℕ, ◌+◌, ◌≤◌, ◌<◌, length, Result, Ok, Err, Some}
 use Rattle.std.proofs.lemmas.List.Edits.{sets}
 use Rattle.event.specs.Meaning.{Meaning, array, dictionary, close, boolean, bytes, date, integer, real, text, uid}
 use Rattle.grammar.specs.Check.{check_of}
@@ -12,19 +12,17 @@ use Rattle.grammar.specs.declared.way.Way.TheVariants.{Past, Into, Out}
 use Rattle.tape.specs.Events.{meanings_in}
 use Rattle.tape.specs.Item.{item_at, event, read_at}
 use Rattle.tape.specs.declared.item.Item.{Item}
-use Rattle.tape.specs.declared.item.Step.TheVariants as step
 use Rattle.xml.specs.Put.{Lined}
 use Rattle.xml.specs.Said.{bar_number}
 use Rattle.xml.specs.Write.{Said, refused, by_events}
 use Rattle.xml.specs.Xml.{lines_from}
-use Rattle.xml.specs.declared.lines.Lines.{Lines}
-use Rattle.xml.specs.declared.lines.Lines.TheVariants.{End, Barred}
+use Rattle.xml.specs.declared.answer.Bar.{Bar}
 use Rattle.xml.specs.declared.lines.Told.{Told}
 
 -- an event stands at a place
 pub record Held (tape : List ℕ) (at : ℕ) : Type 0 where
   pub item : Item
-  pub is : item_at tape at ≡ step.Item item
+  pub is : item_at tape at ≡ Some item
 
 -- where an event leads that the check lets pass
 unfoldable pub open_way : Due → Meaning → Way
@@ -55,13 +53,13 @@ pub record Unbarred (tape : List ℕ) : Type 0 where
   pub none : (x : Said) → by_events 0 (meanings_in tape) x ≡ x
 
 -- the answer, where otherwise it is x
-unfoldable pub lines_said : Lines → Said → Said
-lines_said (End n) x = x
-lines_said (Barred b place) x = refused (bar_number b) [] place
+unfoldable pub lines_said : Result ℕ (Bar × ℕ) → Said → Said
+lines_said (Ok n) x = x
+lines_said (Err (b, place)) x = refused (bar_number b) [] place
 
 -- all of them
-pub record Laid (tape before : List ℕ) (from : ℕ) (after : List ℕ) (r : Lines) : Type 0 where
+pub record Laid (tape before : List ℕ) (from : ℕ) (after : List ℕ) (r : Result ℕ (Bar × ℕ)) : Type 0 where
   pub answer : (x : Said) → lines_said r x ≡ by_events 0 (meanings_in tape) x
-  pub place : (n : ℕ) → r ≡ End n → n ≡ from + length (lines_from Root [] (meanings_in tape))
-  pub small : (n : ℕ) → r ≡ End n → n < 0x100_0000_0000
-  pub memory : (n : ℕ) → r ≡ End n → n ≤ length before → after ≡ sets before from (lines_from Root [] (meanings_in tape))
+  pub place : (n : ℕ) → r ≡ Ok n → n ≡ from + length (lines_from Root [] (meanings_in tape))
+  pub small : (n : ℕ) → r ≡ Ok n → n < 0x100_0000_0000
+  pub memory : (n : ℕ) → r ≡ Ok n → n ≤ length before → after ≡ sets before from (lines_from Root [] (meanings_in tape))

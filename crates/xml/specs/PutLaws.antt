@@ -1,5 +1,5 @@
 -- What is placed, piece by piece, and what a line answers and leaves.
-use Rattle.std.specs.Prelude.{Bool, true, false, List, ◌++◌, ◌≡◌, refl, ℕ, ◌+◌, leb, length}
+use Rattle.std.specs.Prelude.{Bool, true, false, List, ◌++◌, ◌≡◌, refl, ℕ, ◌+◌, leb, length, Result, Ok, Err}
 use Rattle.std.proofs.lemmas.Bool.{false≢true}
 use Rattle.std.proofs.Common.{sym, ap, ◌∙◌, arith, leb-false, length-append}
 use Rattle.std.proofs.lemmas.List.Edits.{sets}
@@ -12,8 +12,7 @@ use Rattle.xml.specs.SimpleLaws.{simple_escape, simple_passes}
 use Rattle.xml.specs.Text.{barred_in}
 use Rattle.xml.specs.Xml.{escape, element, worded}
 use Rattle.xml.specs.declared.answer.Bar.TheVariants.{NoCharacter}
-use Rattle.xml.specs.declared.put.Line.{Line}
-use Rattle.xml.specs.declared.put.Line.TheVariants.{End, Barred}
+use Rattle.xml.specs.declared.answer.Bar.{Bar}
 
 -- ---- pieces
 
@@ -42,20 +41,20 @@ placed_append {l} {at} {vs} {m} {mid} {ws} {n} {end} v w =
           (written_append front back).memory;
     }
 
-pub puts : {l : List ℕ} {at : ℕ} {line m : List ℕ} {end : ℕ} → Placed l at line m end → Puts l at line m (End end)
+pub puts : {l : List ℕ} {at : ℕ} {line m : List ℕ} {end : ℕ} → Placed l at line m end → Puts l at line m (Ok end)
 puts {end = end} p = record { end = end; is = refl; placed = p }
 
 -- ---- text
 
 module _ (l : List ℕ) (at : ℕ) (key : Bool) (s m : List ℕ) where
-  pub worded_simple : (r : Line) → all_simple s ≡ true → Puts l at (element (worded key) s) m r → Worded l at key s m r
+  pub worded_simple : (r : Result ℕ Bar) → all_simple s ≡ true → Puts l at (element (worded key) s) m r → Worded l at key s m r
   worded_simple r p w = record {
     stands = λ h. rw (simple_escape s p) w;
     bars = λ h. absurd (false≢true (sym (simple_passes s p) ∙ h));
   }
 
-  pub worded_escaped : (r : Line) → barred_in s ≡ false → Puts l at (element (worded key) (escape s)) m r → Worded l at key s m r
+  pub worded_escaped : (r : Result ℕ Bar) → barred_in s ≡ false → Puts l at (element (worded key) (escape s)) m r → Worded l at key s m r
   worded_escaped r p w = record { stands = λ h. w; bars = λ h. absurd (false≢true (sym p ∙ h)) }
 
-  pub worded_barred : barred_in s ≡ true → Worded l at key s m (Barred NoCharacter)
+  pub worded_barred : barred_in s ≡ true → Worded l at key s m (Err NoCharacter)
   worded_barred p = record { stands = λ h. absurd (false≢true (sym h ∙ p)); bars = λ h. refl }

@@ -1,7 +1,6 @@
 -- What the XML shows of an event: all of it but a container's given length, and of a date its floor. And XML read again: what the line at the
 -- front of bytes shows. docs/FORMAT.md, X9.
-use Rattle.std.specs.Prelude.{true, false, cond, List, [], ◌∷◌, ℕ, zero, suc, eqb, ℤ, get_or, drop}
-use Rattle.std.proofs.Math.Option.{Option, none, some}
+use Rattle.std.specs.Prelude.{true, false, cond, List, [], ◌∷◌, ℕ, zero, suc, eqb, ℤ, get_or, drop, None, Option, Some}
 use Rattle.radix64.specs.Base64.{unbase64}
 use Rattle.calendar.specs.Date as calendar
 use Rattle.calendar.specs.Date.{seconds_of}
@@ -45,8 +44,8 @@ unfoldable pub unescape : List ℕ → List ℕ
 unescape s = unescape_from 0 s
 
 unfoldable pub seconds_in : calendar.Said ℤ → Option ℤ
-seconds_in (calendar.gives z) = some z
-seconds_in (calendar.refused number) = none
+seconds_in (calendar.gives z) = Some z
+seconds_in (calendar.refused number) = None
 
 -- by the name's first letters: `true`, `false`, `integer`, `string`, `key`, `array`, an end, `dict`, `date`, `data`
 unfoldable pub shown_in : List ℕ → Shown
@@ -56,8 +55,8 @@ shown_in l =
     (cond (eqb (get_or l 1 0) 105) (kept (integer (integer_in (body (drop 9 l)))))
     (cond (eqb (get_or l 1 0) 115) (kept (text (unescape (body (drop 8 l)))))
     (cond (eqb (get_or l 1 0) 107) (kept (text (unescape (body (drop 5 l)))))
-    (cond (eqb (get_or l 1 0) 97) (kept (array none))
+    (cond (eqb (get_or l 1 0) 97) (kept (array None))
     (cond (eqb (get_or l 1 0) 47) (kept close)
-    (cond (eqb (get_or l 2 0) 105) (kept (dictionary none))
+    (cond (eqb (get_or l 2 0) 105) (kept (dictionary None))
     (cond (eqb (get_or l 4 0) 101) (day (seconds_in (seconds_of (time_in (body (drop 6 l))))))
     (kept (bytes (unbase64 (body (drop 6 l)))))))))))))

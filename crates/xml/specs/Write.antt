@@ -1,6 +1,5 @@
 -- What is answered for a tape and so much room, and what is left in the output. docs/FORMAT.md, X6 to X8.
-use Rattle.std.specs.Prelude.{Bool, true, cond, ◌&&◌, ◌||◌, List, [], ◌∷◌, ℕ, ◌+◌, ltb, leb, eqb, length}
-use Rattle.std.proofs.Math.Option.{Option, none, some}
+use Rattle.std.specs.Prelude.{Bool, true, cond, ◌&&◌, ◌||◌, List, [], ◌∷◌, ℕ, ◌+◌, ltb, leb, eqb, length, None, Option, Some}
 use Rattle.std.proofs.lemmas.List.Edits.{sets}
 use Rattle.calendar.specs.Date as calendar
 use Rattle.calendar.specs.Date.{calendar_of}
@@ -24,21 +23,21 @@ all_chars (v ∷ vs) = is_char v && all_chars vs
 
 -- the calendar's own refusal, 30
 unfoldable pub date_bar : calendar.Said Time → Option ℕ
-date_bar (calendar.gives t) = none
-date_bar (calendar.refused number) = some number
+date_bar (calendar.gives t) = None
+date_bar (calendar.refused number) = Some number
 
 -- X6: why an event has no XML, if it has none
 unfoldable pub bar_of : Meaning → Option ℕ
-bar_of (array n) = none
-bar_of (dictionary n) = none
-bar_of close = none
-bar_of (boolean b) = none
-bar_of (bytes s) = none
+bar_of (array n) = None
+bar_of (dictionary n) = None
+bar_of close = None
+bar_of (boolean b) = None
+bar_of (bytes s) = None
 bar_of (date b) = date_bar (calendar_of b)
-bar_of (integer z) = none
-bar_of (real b) = some 35
-bar_of (text s) = cond (all_chars (scalars8 s)) none (some 36)
-bar_of (uid n) = some 35
+bar_of (integer z) = None
+bar_of (real b) = Some 35
+bar_of (text s) = cond (all_chars (scalars8 s)) None (Some 36)
+bar_of (uid n) = Some 35
 
 -- the XML's length; or a refusal's number, what it names as expected and found, and its place
 pub data Said : Type 0 where
@@ -48,7 +47,7 @@ pub data Said : Type 0 where
 -- X6: the first event that has none, of events that begin at a place of the tape
 unfoldable pub by_events : ℕ → List Meaning → Said → Said
 by_events at [] otherwise = otherwise
-by_events at (m ∷ ms) otherwise = elim (bar_of m) [ some number ↦ refused number [] at | none ↦ by_events (at + length (bytes_for m)) ms otherwise ]
+by_events at (m ∷ ms) otherwise = elim (bar_of m) [ Some number ↦ refused number [] at | None ↦ by_events (at + length (bytes_for m)) ms otherwise ]
 
 -- X6: the refusals of the tape come before
 unfoldable pub by_check : check.Said → List Meaning → Said

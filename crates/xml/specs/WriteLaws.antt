@@ -1,6 +1,5 @@
 -- What a length that is answered says of the tape; and what stands in the output then.
-use Rattle.std.specs.Prelude.{Bool, true, false, cond, List, [], ◌∷◌, ◌++◌, ◌≡◌, refl, ℕ, ◌+◌, ◌≤◌, ◌<◌, ltb, pos, negsuc, length, drop}
-use Rattle.std.proofs.Math.Option.{Option, none, some}
+use Rattle.std.specs.Prelude.{Bool, true, false, cond, List, [], ◌∷◌, ◌++◌, ◌≡◌, refl, ℕ, ◌+◌, ◌≤◌, ◌<◌, ltb, pos, negsuc, length, drop, None, Option, Some}
 use Rattle.std.proofs.Common.{zero-add, arith, ltb-false, lt-ltb, le-ltb}
 use Rattle.std.proofs.lemmas.List.Edits.{sets, sets-eq}
 use Rattle.calendar.specs.Date as calendar
@@ -67,13 +66,13 @@ bytes_left : (s t : List ℕ) → Bytes (s ++ t) → Bytes s
 bytes_left [] t h = tt
 bytes_left (b ∷ s) t h = (h.0, bytes_left s t h.1)
 
-day_there : (r : calendar.Said Time) → date_bar r ≡ none → (t : Time) × (r ≡ calendar.gives t)
+day_there : (r : calendar.Said Time) → date_bar r ≡ None → (t : Time) × (r ≡ calendar.gives t)
 unfolding date_bar
 day_there (calendar.gives t) e = (t, refl)
 day_there (calendar.refused number) e = let z : ◌≡◌ {A = ℕ} 0 1 = cc in absurd (omega arith)
 
 -- an event on a tape that is not refused has XML
-sayable : (m : Meaning) → OnTape m → Bytes (bytes_for m) → bar_of m ≡ none → Sayable m
+sayable : (m : Meaning) → OnTape m → Bytes (bytes_for m) → bar_of m ≡ None → Sayable m
 unfolding bar_of bytes_for
 sayable (array n) o h e = tt
 sayable (dictionary n) o h e = tt
@@ -99,8 +98,8 @@ passed at [] x n e = record { sayable = λ o h. tt; unbarred = λ y. refl; is = 
 passed at (m ∷ ms) x n e = go (bar_of m) refl (passed (at + length (bytes_for m)) ms x n)
   where
     go : (b : Option ℕ) → bar_of m ≡ b → (by_events (at + length (bytes_for m)) ms x ≡ long n → Passed (at + length (bytes_for m)) ms x n) → Passed at (m ∷ ms) x n
-    go (some number) f i = absurd (not_long number [] at n (rw (f, by_events) at e))
-    go none f i =
+    go (Some number) f i = absurd (not_long number [] at n (rw (f, by_events) at e))
+    go None f i =
         let j = i (rw (f, by_events) at e) in
         record {
           sayable = λ o h. (sayable m o.0 (bytes_left (bytes_for m) (tape_of ms) h) f, j.sayable o.1 (bytes_right (bytes_for m) (tape_of ms) h));

@@ -23,6 +23,7 @@ pub enum Answer {
 }
 
 // Its number (docs/FORMAT.md, N).
+#[tactic(auto, unfolding(crate::specs::Said::bar_number))]
 pub fn bar_number(bar: Bar) -> u32
     ensures { result ≡ bar_number bar }
 {

@@ -17,7 +17,7 @@ ghost use Rattle.xml.specs.Write.{measured_of, answer_of, output_of};
 ghost use Rattle.xml.specs.Xml.{xml_of};
 
 use crate::answer::Answer;
-use crate::lines::{Lines, put_lines};
+use crate::lines::put_lines;
 use crate::text::write_piece;
 use grammar::answer::Checked;
 use grammar::check::check_tape;
@@ -65,8 +65,8 @@ fn measure_lines(tape: &[u8]) -> Answer
 {
     let mut none = [0u8; 1];
     match put_lines(tape, &mut none, HEADER_LENGTH) {
-        Lines::End(end) => Answer::Length(end + FOOTER_LENGTH),
-        Lines::Barred(bar, place) => Answer::Barred(bar, place),
+        Ok(end) => Answer::Length(end + FOOTER_LENGTH),
+        Err((bar, place)) => Answer::Barred(bar, place),
     }
 }
 
@@ -82,7 +82,7 @@ fn put_whole(tape: &[u8], out: &mut [u8])
         b"<!DOCTYPE plist PUBLIC \"-//Apple//DTD PLIST 1.0//EN\" \"http://www.apple.com/DTDs/PropertyList-1.0.dtd\">\n",
     );
     let lines_at = write_piece(out, plist_at, b"<plist version=\"1.0\">\n");
-    let Lines::End(end) = put_lines(tape, out, lines_at) else {
+    let Ok(end) = put_lines(tape, out, lines_at) else {
         return;
     };
     write_piece(out, end, b"</plist>\n");

@@ -1,15 +1,17 @@
 // Text in XML: whether XML 1.0 allows its characters, how long it is, and its bytes.
-ghost use Rattle.std.specs.Prelude.{cond, ◌≡◌, ◌+◌, ◌^◌, ◌≤◌, ◌<◌, length, drop};
+ghost use Rattle.std.specs.Prelude.{◌≡◌, ◌+◌, ◌^◌, ◌≤◌, ◌<◌, length, drop};
 ghost use Rattle.digits.specs.Put.{Written};
 ghost use Rattle.xml.specs.Put.{Placed};
 ghost use Rattle.xml.specs.Text.{is_clear, all_clear, more_for, more_in, barred_first, barred_in};
 ghost use Rattle.xml.specs.Xml.{escape_of, escape};
 
-use crate::simple::{are_eight_simple, eight_at};
+use crate::simple::is_simple_chunk;
 use digits::fits;
 use number::copy::write_bytes;
 
 // No character of XML's text can be barred for this byte.
+// Kept: every test is made, where matches! would branch, so that the compiler takes many bytes at once in a loop.
+#[tactic(auto, unfolding(crate::specs::Text::is_clear))]
 fn is_clear(b: u8) -> bool
     ensures { result ≡ is_clear b }
 {
@@ -29,24 +31,16 @@ pub(crate) fn is_barred(s: &[u8]) -> bool
 fn are_clear(s: &[u8]) -> bool
     ensures { result ≡ all_clear s.now }
 {
-    let mut clear = true;
-    let mut i: usize = 0;
-    while i < s.len() {
-        clear = clear & is_clear(s[i]);
-        i += 1;
-    }
-    clear
+    s.iter().fold(true, |clear, b| clear & is_clear(*b))
 }
 
 fn has_barred(s: &[u8]) -> bool
     ensures { result ≡ barred_in s.now }
 {
-    let mut i: usize = 0;
-    while i < s.len() {
+    for i in 0..s.len() {
         if barred_at(s, i) {
             return true;
         }
-        i += 1;
     }
     false
 }
@@ -55,20 +49,10 @@ fn barred_at(s: &[u8], i: usize) -> bool
     requires { i < length s.now }
     ensures { result ≡ barred_first (drop i s.now) }
 {
-    let b = s[i];
-    if is_clear(b) {
-        return false;
+    match s[i] {
+        0xef => 3 <= s.len() - i && s[i + 1] == 0xbf && 0xbe <= s[i + 2],
+        b => !is_clear(b),
     }
-    if b != 0xef {
-        return true;
-    }
-    if s.len() - i < 3 {
-        return false;
-    }
-    if s[i + 1] != 0xbf {
-        return false;
-    }
-    0xbe <= s[i + 2]
 }
 
 // Text escaped, where it fits; the place behind it in any case.
@@ -91,13 +75,12 @@ fn escaped_size(s: &[u8]) -> usize
     requires { length s.now ≤ 2_147_483_648 }
     ensures { result ≡ length (escape s.now) }
 {
+    let (blocks, rest) = s.as_chunks::<32>();
     let mut more: usize = 0;
-    let mut i: usize = 0;
-    while 32 <= s.len() - i {
-        more += few_more(&s[i..i + 32]) as usize;
-        i += 32;
+    for block in blocks {
+        more += few_more(block) as usize;
     }
-    s.len() + (more + few_more(&s[i..]) as usize)
+    s.len() + (more + few_more(rest) as usize)
 }
 
 // How many bytes more at most 32 bytes take.
@@ -106,10 +89,8 @@ fn few_more(part: &[u8]) -> u8
     ensures { result ≡ more_in part.now }
 {
     let mut more: u8 = 0;
-    let mut k: usize = 0;
-    while k < part.len() {
-        more += more_for(part[k]);
-        k += 1;
+    for b in part {
+        more += more_for(*b);
     }
     more
 }
@@ -117,14 +98,7 @@ fn few_more(part: &[u8]) -> u8
 fn more_for(b: u8) -> u8
     ensures { result ≡ more_for b }
 {
-    times(b == b'&', 4) + (times(b == b'<', 3) + times(b == b'>', 3))
-}
-
-fn times(yes: bool, n: u8) -> u8
-    ensures value { result ≡ cond yes n 0 }
-    ensures upper_bound { result ≤ n }
-{
-    if yes { n } else { 0 }
+    u8::from(b == b'&') * 4 + (u8::from(b == b'<') * 3 + u8::from(b == b'>') * 3)
 }
 
 // Eight bytes at a time.
@@ -132,35 +106,32 @@ fn write_escaped(out: &mut [u8], at: usize, s: &[u8]) -> usize
     requires { at + length (escape s.now) ≤ length out.old }
     ensures { Written out.old at (escape s.now) out.new result }
 {
-    let mut to: usize = at;
-    let mut i: usize = 0;
-    while 8 <= s.len() - i {
-        to = write_eight(out, to, &s[i..i + 8]);
-        i += 8;
+    let (eights, rest) = s.as_chunks::<8>();
+    let mut to = at;
+    for eight in eights {
+        to = write_eight(out, to, eight);
     }
-    write_characters(out, to, &s[i..])
+    write_characters(out, to, rest)
 }
 
 // Eight bytes, as they are where they are simple.
-fn write_eight(out: &mut [u8], at: usize, part: &[u8]) -> usize
-    requires { (length part.now ≡ 8) × (at + length (escape part.now) ≤ length out.old) }
-    ensures { Written out.old at (escape part.now) out.new result }
+fn write_eight(out: &mut [u8], at: usize, eight: &[u8; 8]) -> usize
+    requires { at + length (escape eight.now) ≤ length out.old }
+    ensures { Written out.old at (escape eight.now) out.new result }
 {
-    if are_eight_simple(eight_at(part, 0)) {
-        return write_piece(out, at, part);
+    if is_simple_chunk(eight) {
+        return write_piece(out, at, eight);
     }
-    write_characters(out, at, part)
+    write_characters(out, at, eight)
 }
 
 fn write_characters(out: &mut [u8], at: usize, s: &[u8]) -> usize
     requires { at + length (escape s.now) ≤ length out.old }
     ensures { Written out.old at (escape s.now) out.new result }
 {
-    let mut to: usize = at;
-    let mut i: usize = 0;
-    while i < s.len() {
-        to = write_character(out, to, s[i]);
-        i += 1;
+    let mut to = at;
+    for b in s {
+        to = write_character(out, to, *b);
     }
     to
 }
@@ -169,17 +140,15 @@ fn write_character(out: &mut [u8], at: usize, b: u8) -> usize
     requires { at + length (escape_of b) ≤ length out.old }
     ensures { Written out.old at (escape_of b) out.new result }
 {
-    if b == b'&' {
-        return write_piece(out, at, b"&amp;");
+    match b {
+        b'&' => write_piece(out, at, b"&amp;"),
+        b'<' => write_piece(out, at, b"&lt;"),
+        b'>' => write_piece(out, at, b"&gt;"),
+        _ => {
+            out[at] = b;
+            at + 1
+        }
     }
-    if b == b'<' {
-        return write_piece(out, at, b"&lt;");
-    }
-    if b == b'>' {
-        return write_piece(out, at, b"&gt;");
-    }
-    out[at] = b;
-    at + 1
 }
 
 // Bytes as they are, and the place behind them. What would lie beyond the memory's end is left out.

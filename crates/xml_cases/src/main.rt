@@ -8,14 +8,12 @@ use std::rt::Files;
 use xml_say::say_input;
 
 fn main(rt: HostRuntime) -> io::Result<()> {
-    show(&rt, "values")?;
-    show(&rt, "real")?;
-    show(&rt, "uid")?;
-    show(&rt, "control")?;
-    show(&rt, "far")?;
-    show(&rt, "magic")?;
-    show(&rt, "filled")?;
-    show(&rt, "long")
+    for name in [
+        "values", "real", "uid", "control", "far", "magic", "filled", "long",
+    ] {
+        show(&rt, name)?;
+    }
+    Ok(())
 }
 
 fn show(rt: &(impl Files + Print), name: &str) -> io::Result<()> {

@@ -1,7 +1,6 @@
 // The XML of a property list that a reader hands out, put to a writer.
 #![tactic(auto)]
 
-use digits::Put;
 use input::{has_more, read_full};
 use reader::refusal::number_of;
 use say::{say_put, say_refusal};
@@ -29,10 +28,8 @@ pub fn say_input<R: Read, W: Write>(
         return say_refusal(to, out, 1, 0);
     }
     let transcript = transcribe(&input[..n], scratch, tape, BUDGET);
-    let ending = transcript.ending;
-    let held = transcript.held;
-    match ending {
-        Ending::Ended => say_held(to, tape, held, out),
+    match transcript.ending {
+        Ending::Ended => say_held(to, tape, transcript.held, out),
         Ending::Stopped => Ok(()),
         Ending::Refused(refusal, place) => say_refusal(to, out, number_of(refusal) as u64, place),
         Ending::NoRoomForTape(place) => say_refusal(to, out, 27, place),
@@ -41,15 +38,15 @@ pub fn say_input<R: Read, W: Write>(
 
 // The XML of what a tape holds.
 fn say_held<W: Write>(to: &mut W, tape: &[u8], held: usize, out: &mut [u8]) -> io::Result<()> {
-    if held <= tape.len() {
-        say_xml(to, &tape[..held], out)?;
+    match tape.get(..held) {
+        Some(tape) => say_xml(to, tape, out),
+        None => Ok(()),
     }
-    Ok(())
 }
 
 fn say_xml<W: Write>(to: &mut W, tape: &[u8], out: &mut [u8]) -> io::Result<()> {
     match write_xml(tape, out) {
-        Answer::Length(n) => say_put(to, out, Put::End(n)),
+        Answer::Length(n) => say_put(to, out, Some(n)),
         Answer::Refused(refusal, place) => {
             say_refusal(to, out, grammar::answer::number_of(refusal) as u64, place)
         }

@@ -7,7 +7,7 @@ use Rattle.exports_plain.proofs.zm_read_plainly.Goals as goal
 pub returns : goal.returns
 returns c =
     let e = c.read_plainly-reading.ensures in
-    let code = c.end_code.ensures ∙ ap (λ (z : Plainly). end_code z.ending) e in
-    let place = c.end_place.ensures ∙ ap (λ (z : Plainly). end_place z.ending) e in
-    let marker = c.end_marker.ensures ∙ ap (λ (z : Plainly). end_marker z.ending) e in
+    let code = c.end_of-end.ensures.code ∙ ap (λ (z : Plainly). end_code z.ending) e in
+    let place = c.end_of-end.ensures.place ∙ ap (λ (z : Plainly). end_place z.ending) e in
+    let marker = c.end_of-end.ensures.marker ∙ ap (λ (z : Plainly). end_marker z.ending) e in
     (record { value = code; held_after = ap (λ (z : Plainly). z.held) e; place_after = place; marker_after = marker; tape_after = ap (λ (z : Plainly). z.tape) e })

@@ -6,6 +6,7 @@ use Prim.Native.Nat.{ℕ, suc, ◌+◌, ◌-◌, ◌^◌, ◌<◌}
 use native.Mathlib.Omega.{arith}
 use borrow.Author.Rules.{rules}
 use lib.ListN.{length, take, drop, length-set}
+use Rattle.std.proofs.lemmas.Result.{err_from_is_err_and}
 use Rattle.event.specs.Format.{max_open}
 use Rattle.event.specs.Meaning.{meaning_of}
 use Rattle.event.specs.declared.Event.{Event}
@@ -72,15 +73,17 @@ element-put t c =
     let i = c.loop-tape in
     c.read_object.ensures.tape_after ∙ ap (λ (o : List ℕ). say_onto i.far.left i.far.held i.tape (object_says a.file.now a.layout (max_open - a.depth) o i.far.place c.in-Member.member)) i.invariant.1
 
-pub read_elements-returns-in-Over : goal.read_elements-returns-in-Over
-read_elements-returns-in-Over t c =
+pub read_elements-returns-in_err-far-in-Member : goal.read_elements-returns-in_err-far-in-Member
+read_elements-returns-in_err-far-in-Member t c =
     let a = c.args in
     let i = c.loop-tape in
-    let r = (goal.at.read_elements-returns-in-Over t c).After-read_object in
+    let r = (goal.at.read_elements-returns-in_err-far-in-Member t c).After-read_object in
+    let e = err_from_is_err_and c.from_residual.result c.from_residual.ensures.1 in
     record {
       tape_after =
-          from_over a.file.now a.layout (max_open - a.depth) (take a.depth a.opened.now) a.frame.object a.frame.offset i.position i.far.left i.far.held i.tape i.far.place _ (next_due t r).0 c.read_object.result
-          c.read_object.new.tape (element-put t r) _ c.in-Over.is
+          rw (e.1, e.2)
+          (from_over a.file.now a.layout (max_open - a.depth) (take a.depth a.opened.now) a.frame.object a.frame.offset i.position i.far.left i.far.held i.tape i.far.place _ (next_due t r).0 c.read_object.result
+          c.read_object.new.tape (element-put t r) _ c.in_err-far-in-Member.was)
           ∙ i.invariant.2;
       opened_unchanged = c.read_object.ensures.opened_unchanged ∙ i.invariant.1;
     }
@@ -102,7 +105,7 @@ read_elements-loop-tape-preserved t c =
       omega (arith, (next_due t r).1),
       c.read_object.ensures.opened_unchanged ∙ i.invariant.1,
       sym (from_on a.file.now a.layout (max_open - a.depth) (take a.depth a.opened.now) a.frame.object a.frame.offset i.position i.far.left i.far.held i.tape i.far.place _ (next_due t r).0 c.read_object.result
-          c.read_object.new.tape (element-put t r) _ c.in-On.is)
+          c.read_object.new.tape (element-put t r) _ c.in_ok-far-in-Member.was)
           ∙ i.invariant.2,
     )
 
@@ -204,20 +207,22 @@ read_object-returns-in-Scalar-clause-tape_after t c =
     c.put_scalar.ensures
     ∙ object_scalar a.file.now a.layout (take a.depth a.opened.now) a.far.place a.object u.result u.ensures.result_value _ _ _ c.in-Scalar.is u.ensures.result_value_2 (max_open - a.depth) a.far.left a.far.held a.tape.now
 
-pub read_object-returns-in-Over-clause-tape_after : goal.read_object-returns-in-Over-clause-tape_after
-read_object-returns-in-Over-clause-tape_after t c =
+pub read_object-returns-in_err-inside-in-Container-clause-tape_after : goal.read_object-returns-in_err-inside-in-Container-clause-tape_after
+read_object-returns-in_err-inside-in-Container-clause-tape_after t c =
     let a = c.args in
     let u = c.look_up in
-    object_over a.file.now a.layout (take a.depth a.opened.now) a.far.place a.object u.result u.ensures.result_value _ _ _ c.in-Container.is a.far.left a.far.held a.tape.now (max_open - a.depth) (max_open - (a.depth + 1))
+    let e = err_from_is_err_and c.from_residual.result c.from_residual.ensures.1 in
+    rw (e.1, e.2)
+    (object_over a.file.now a.layout (take a.depth a.opened.now) a.far.place a.object u.result u.ensures.result_value _ _ _ c.in-Container.is a.far.left a.far.held a.tape.now (max_open - a.depth) (max_open - (a.depth + 1))
     (one_more a.depth c.if-depth-ge-MAX_OPEN.false) (sym c.is_among.ensures ∙ c.if-is_among.false) c.put_event.result c.put_event.new.tape
-    (start_put t (goal.at.read_object-returns-in-Over-clause-tape_after t c).After-put_event) _ c.in-Over.is
+    (start_put t (goal.at.read_object-returns-in_err-inside-in-Container-clause-tape_after t c).After-put_event) _ c.in_err-inside-in-Container.was)
 
-pub read_object-returns-in-On : goal.read_object-returns-in-On
-read_object-returns-in-On t c =
+pub read_object-returns-in_ok-inside-in-Container : goal.read_object-returns-in_ok-inside-in-Container
+read_object-returns-in_ok-inside-in-Container t c =
     let a = c.args in
     let u = c.look_up in
     let r = c.read_elements in
-    let far = c.in-On.inside in
+    let far = c.in_ok-inside-in-Container.inside in
     let k : a.depth < max_open = c.if-depth-ge-MAX_OPEN.false in
     let d : a.depth < length a.opened.now = omega (arith, c.requires.1) in
     record {
@@ -225,6 +230,6 @@ read_object-returns-in-On t c =
           r.ensures.tape_after
           ∙ ap (λ (o : List ℕ). say_onto far.left far.held c.put_event.new.tape (elements_say a.file.now a.layout (max_open - (a.depth + 1)) o a.object c.in-Container.offset far.place)) (deeper_opened a.opened.now a.depth a.object d)
           ∙ object_on a.file.now a.layout (take a.depth a.opened.now) a.far.place a.object u.result u.ensures.result_value _ _ _ c.in-Container.is a.far.left a.far.held a.tape.now (max_open - a.depth) (max_open - (a.depth + 1))
-          (one_more a.depth k) (sym c.is_among.ensures ∙ c.if-is_among.false) c.put_event.result c.put_event.new.tape (start_put t (goal.at.read_object-returns-in-On t c).After-put_event) far c.in-On.is;
+          (one_more a.depth k) (sym c.is_among.ensures ∙ c.if-is_among.false) c.put_event.result c.put_event.new.tape (start_put t (goal.at.read_object-returns-in_ok-inside-in-Container t c).After-put_event) far c.in_ok-inside-in-Container.was;
       opened_unchanged = outer_opened a.opened.now _ a.depth a.object r.ensures.opened_unchanged;
     }

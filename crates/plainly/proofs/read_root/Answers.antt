@@ -3,9 +3,9 @@ use Rattle.plainly.specs.Said.{ending_said}
 use Rattle.plainly.proofs.Roots.{root_on, root_over}
 use Rattle.plainly.proofs.read_root.Goals as goal
 
-pub returns-in-On : goal.returns-in-On
+pub returns-in-Ok : goal.returns-in-Ok
 unfolding ending_said
-returns-in-On c = let r = c.read_object in root_on r.result r.new.tape _ c.read_object.ensures.tape_after _ c.in-On.is
+returns-in-Ok c = let r = c.read_object in root_on r.result r.new.tape _ c.read_object.ensures.tape_after _ c.in-Ok.is
 
-pub returns-in-Over : goal.returns-in-Over
-returns-in-Over c = let r = c.read_object in root_over r.result r.new.tape _ c.read_object.ensures.tape_after _ c.in-Over.is
+pub returns-in-Err : goal.returns-in-Err
+returns-in-Err c = let r = c.read_object in root_over r.result r.new.tape _ c.read_object.ensures.tape_after _ c.in-Err.is

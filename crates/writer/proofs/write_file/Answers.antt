@@ -30,10 +30,13 @@ returns-then-work-n c =
 pub slice_bounds-write_events-end-in-Whole : goal.slice_bounds-write_events-end-in-Whole
 slice_bounds-write_events-end-in-Whole c = sym (length-take-le _ _ (omega (arith, c.if-work-n.false)))
 
-pub write_events-requires : goal.write_events-requires
-write_events-requires c =
+pub invariant_of-write_events : goal.invariant_of-write_events
+invariant_of-write_events c =
     let t = c.args.tape.now in
-    (ready_of t c.in-Whole.n (bytes_of_law t (search rules)) (counted _ c.check_tape.ensures c.in-Whole.is), length-take-le _ _ (omega (arith, c.if-work-n.false)))
+    record { ready = ready_of t c.in-Whole.n (bytes_of_law t (search rules)) (counted _ c.check_tape.ensures c.in-Whole.is) }
+
+pub write_events-requires : goal.write_events-requires
+write_events-requires c = length-take-le _ _ (omega (arith, c.if-work-n.false))
 
 -- the part of the words that is lent has eight for each event
 pub returns-else-work-n : goal.returns-else-work-n

@@ -13,23 +13,6 @@ use Rattle.xml.proofs.put_whole.Lts as lts
 use Rattle.xml.proofs.put_whole.Reads as reads
 use Rattle.xml.proofs.put_whole.Tie as tie
 
-pub write_piece-doctype_at-requires : goal.write_piece-doctype_at-requires
-write_piece-doctype_at-requires c = omega arith
-
-pub write_piece-plist_at-requires : goal.write_piece-plist_at-requires
-write_piece-plist_at-requires c = omega (arith, c.write_piece-doctype_at.ensures.place)
-
-pub write_piece-lines_at-requires : goal.write_piece-lines_at-requires
-write_piece-lines_at-requires c =
-    let write-piece = c.write_piece-doctype_at in
-    omega (arith, write-piece.ensures.place, c.write_piece-plist_at.ensures.place)
-
-pub put_lines-requires : goal.put_lines-requires
-put_lines-requires c =
-    let write-piece = c.write_piece-doctype_at in
-    let write-piece2 = c.write_piece-plist_at in
-    (c.requires.0, omega (arith, write-piece.ensures.place, write-piece2.ensures.place, c.write_piece-lines_at.ensures.place))
-
 pub returns-in_default : goal.returns-in_default
 returns-in_default c =
     absurd (laid_once _ c.put_lines.ensures c.in_default.is c.requires.1)
@@ -37,18 +20,15 @@ returns-in_default c =
 -- the lines stand behind the header
 lines : (x : lts.Past-After-known_told tie.the-claims reads.Pre reads.Post) →
     let header = x.write_piece-lines_at in
-    Written header.new.out header.result (lines_from Root [] (meanings_in x.args.tape.now)) x.put_lines.new.out x.in-End.end
+    Written header.new.out header.result (lines_from Root [] (meanings_in x.args.tape.now)) x.put_lines.new.out x.in-Ok.end
 lines x =
     let first = x.write_piece-doctype_at.ensures in
     let second = x.write_piece-plist_at.ensures in
     let third = x.write_piece-lines_at.ensures in
     let l = x.put_lines.ensures in
     let long = xml_long (meanings_in x.args.tape.now) in
-    laid_written l x.in-End.is
-    (omega (arith, long, x.requires.2, l.place _ x.in-End.is, first.place, second.place, third.place, written_length first, written_length second, written_length third))
-
-pub write_piece-requires : goal.write_piece-requires
-write_piece-requires c = omega (arith, c.put_lines.ensures.small _ c.in-End.is)
+    laid_written l x.in-Ok.is
+    (omega (arith, long, x.requires.2, l.place _ x.in-Ok.is, first.place, second.place, third.place, written_length first, written_length second, written_length third))
 
 pub returns : goal.returns
 unfolding declaration doctype plist footer

@@ -24,37 +24,34 @@ sound c bytes =
     (in_range_law a.event a.bytes.now _ c.well_formed.1.1.0 (search rules), filled a.event a.bytes.now (bytes_of_law a.bytes.now (λ (i : ℕ). omega (arith, bytes i))))
 
 -- nothing is refused before the event itself
-short : (c : goal.Else-lacks_event) (bytes : (i : ℕ) → Fits w8 (get_or c.args.bytes.now i 0)) → let a = c.args in Short a.builder a.tape.now (meaning_of a.event a.bytes.now) (sound (goal.at.Else-lacks_event c).Start bytes)
+short : (c : goal.Else-lacks_event) (bytes : (i : ℕ) → Fits w8 (get_or c.args.bytes.now i 0)) → let a = c.args in Short a.builder.now a.tape.now (meaning_of a.event a.bytes.now) (sound (goal.at.Else-lacks_event c).Start bytes)
 short c _ = (c.if-tape-held.false, sym c.lacks_event.ensures ∙ c.if-lacks_event.false)
 
 pub returns-then-tape-held : goal.returns-then-tape-held
 unfolding answer_said
-returns-then-tape-held c =
-    let both = shrank _ _ _ (sound (goal.at.returns-then-tape-held c).Start c.type_inv.bytes) c.if-tape-held.true in
-    record { answer_value = both.0; tape_after = both.1.0; builder_value = both.1.1.0; sound = both.1.1.1 }
+returns-then-tape-held c = shrank _ _ _ (sound (goal.at.returns-then-tape-held c).Start c.type_inv.bytes) c.if-tape-held.true
 
 pub returns-then-lacks_event : goal.returns-then-lacks_event
 unfolding answer_said number_of kinds_of
 returns-then-lacks_event c =
-    let both = long _ _ _ (sound (goal.at.returns-then-lacks_event c).Start c.type_inv.bytes) c.if-tape-held.false (sym c.lacks_event.ensures ∙ c.if-lacks_event.true) in
-    record { answer_value = both.0; tape_after = both.1.0; builder_value = both.1.1.0; sound = both.1.1.1 }
+    long _ _ _ (sound (goal.at.returns-then-lacks_event c).Start c.type_inv.bytes) c.if-tape-held.false (sym c.lacks_event.ensures ∙ c.if-lacks_event.true)
 
 pub returns-in-Barred : goal.returns-in-Barred
 unfolding answer_said
 returns-in-Barred c =
-    let both = stopped _ _ _ (sound (goal.at.returns-in-Barred c).Start c.type_inv.bytes) (short (goal.at.returns-in-Barred c).Else-lacks_event c.type_inv.bytes) c.judge-way.ensures _ c.in-Barred.is in
-    record { answer_value = both.0; tape_after = both.1.0; builder_value = both.1.1.0; sound = both.1.1.1 }
+    let s = goal.at.returns-in-Barred c in
+    stopped _ _ _ (sound s.Start c.type_inv.bytes) (short s.Else-lacks_event c.type_inv.bytes) c.judge-way.ensures _ c.in-Barred.is
 
 pub returns-in_default-append : goal.returns-in_default-append
 unfolding answer_said
 returns-in_default-append c =
-    let both = full _ _ _ (sound (goal.at.returns-in_default-append c).Start c.type_inv.bytes) (short (goal.at.returns-in_default-append c).Else-lacks_event c.type_inv.bytes) c.judge-way.ensures c.in_default.not-Barred _ c.append.ensures.result_value c.append.ensures.tape_after (full_by _ c.in_default-append.not-Held) in
-    record { answer_value = both.0; tape_after = both.1.0; builder_value = both.1.1.0; sound = both.1.1.1 }
+    let s = goal.at.returns-in_default-append c in
+    full _ _ _ (sound s.Start c.type_inv.bytes) (short s.Else-lacks_event c.type_inv.bytes) c.judge-way.ensures c.in_default.not-Barred _ c.append.ensures.result_value c.append.ensures.tape_after (full_by _ c.in_default-append.not-Held)
 
-pub moved-requires : goal.moved-requires
-moved-requires c = rw c.judge-way.ensures (judge_tells _ _ _)
+pub step-requires : goal.step-requires
+step-requires c = rw c.judge-way.ensures (judge_tells _ _ _)
 
 pub returns : goal.returns
 returns c =
-    let both = taken _ _ _ (sound (goal.at.returns c).Start c.type_inv.bytes) (short (goal.at.returns c).Else-lacks_event c.type_inv.bytes) c.judge-way.ensures c.in_default.not-Barred _ c.in-Held.is c.append.ensures.result_value c.append.ensures.tape_after c.moved.ensures.answer_value c.moved.ensures.builder_value in
-    record { answer_value = both.0; tape_after = both.1.0; builder_value = both.1.1.0; sound = both.1.1.1 }
+    let s = goal.at.returns c in
+    taken _ _ _ (sound s.Start c.type_inv.bytes) (short s.Else-lacks_event c.type_inv.bytes) c.judge-way.ensures c.in_default.not-Barred _ c.in-Held.is c.append.ensures.result_value c.append.ensures.tape_after c.step.ensures

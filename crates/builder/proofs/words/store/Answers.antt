@@ -1,74 +1,18 @@
 -- `store`: each field to its words.
-use native.Mathlib.Omega.{arith}
-use borrow.Author.Tests.{lt-ltb, le-ltb}
-use lib.ListN.{length-set}
-use Rattle.builder.specs.Words.{words_of, store_of}
+use Rattle.std.proofs.Common.{ap, ◌∙◌, arith, le-ltb}
+use Rattle.std.proofs.lemmas.List.Edits.{sets}
+use Rattle.builder.specs.Words.{store_of}
+use Rattle.builder.proofs.Storing.{words_none, words_more, words_all}
 use Rattle.builder.proofs.words.store.Goals as goal
 
-pub returns-then-words-lt-WORDS : goal.returns-then-words-lt-WORDS
-unfolding store_of
-returns-then-words-lt-WORDS c = rw (lt-ltb _ _ c.if-words-lt-WORDS.true)
+pub loop-i-init : goal.loop-i-init
+loop-i-init c = rw c.put_pair.ensures (words_none c.args.words.now c.args.builder)
 
-pub bounds-words-1 : goal.bounds-words-1
-bounds-words-1 c = simp length-set (omega arith)
-
-pub bounds-words-2 : goal.bounds-words-2
-bounds-words-2 c = simp length-set (omega arith)
-
-pub bounds-words-3 : goal.bounds-words-3
-bounds-words-3 c = simp length-set (omega arith)
-
-pub bounds-words-4 : goal.bounds-words-4
-bounds-words-4 c = simp length-set (omega arith)
-
-pub bounds-words-5 : goal.bounds-words-5
-bounds-words-5 c = simp length-set (omega arith)
-
-pub bounds-words-6 : goal.bounds-words-6
-bounds-words-6 c = simp length-set (omega arith)
-
-pub bounds-words-7 : goal.bounds-words-7
-bounds-words-7 c = simp length-set (omega arith)
-
-pub bounds-words-8 : goal.bounds-words-8
-bounds-words-8 c = simp length-set (omega arith)
-
-pub bounds-words-9 : goal.bounds-words-9
-bounds-words-9 c = simp length-set (omega arith)
-
-pub bounds-words-10 : goal.bounds-words-10
-bounds-words-10 c = simp length-set (omega arith)
-
-pub bounds-words-11 : goal.bounds-words-11
-bounds-words-11 c = simp length-set (omega arith)
-
-pub bounds-words-12 : goal.bounds-words-12
-bounds-words-12 c = simp length-set (omega arith)
-
-pub bounds-words-13 : goal.bounds-words-13
-bounds-words-13 c = simp length-set (omega arith)
-
-pub bounds-words-14 : goal.bounds-words-14
-bounds-words-14 c = simp length-set (omega arith)
-
-pub bounds-words-15 : goal.bounds-words-15
-bounds-words-15 c = simp length-set (omega arith)
-
-pub bounds-words-16 : goal.bounds-words-16
-bounds-words-16 c = simp length-set (omega arith)
-
-pub bounds-words-17 : goal.bounds-words-17
-bounds-words-17 c = simp length-set (omega arith)
-
-pub bounds-words-18 : goal.bounds-words-18
-bounds-words-18 c = simp length-set (omega arith)
-
-pub bounds-words-19 : goal.bounds-words-19
-bounds-words-19 c = simp length-set (omega arith)
-
-pub shape_of-words : goal.shape_of-words
-shape_of-words c = simp length-set
+pub loop-i-preserved : goal.loop-i-preserved
+loop-i-preserved c =
+    c.put_pair-in-loop-i.ensures ∙ rw c.loop-i.invariant (words_more c.args.words.now c.args.builder c.loop-i.i (omega arith))
 
 pub returns : goal.returns
-unfolding store_of words_of
-returns c = rw (le-ltb _ _ c.if-words-lt-WORDS.false)
+unfolding store_of
+returns c =
+    rw (le-ltb _ _ c.if-words-lt-WORDS.false, c.loop-i.invariant) (ap (sets c.args.words.now 0) (words_all c.args.builder c.loop-i.i (omega arith) (omega arith)))

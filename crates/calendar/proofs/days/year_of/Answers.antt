@@ -4,8 +4,8 @@ use Rattle.calendar.specs.YearLaws.{year_small, year_cut}
 use Prim.Native.Nat.{◌+◌, ◌*◌, ◌-◌, ◌/◌, ◌%◌, ◌<◌}
 use Rattle.calendar.proofs.days.year_of.Goals as goal
 
-small : (c : goal.After-at_most_three-ones) → 400 * (c.args.days / 146_097) + 100 * c.at_most_three-hundreds.result + 4 * ((c.args.days % 146_097 - 36_524 * c.at_most_three-hundreds.result) / 1461) + c.at_most_three-ones.result < 10000
-small c = year_small c.args.days c.at_most_three-hundreds.result c.at_most_three-ones.result c.requires c.at_most_three-hundreds.ensures c.at_most_three-ones.ensures
+small : (c : goal.After-min-ones) → 400 * (c.args.days / 146_097) + 100 * c.min-hundreds.result + 4 * ((c.args.days % 146_097 - 36_524 * c.min-hundreds.result) / 1461) + c.min-ones.result < 10000
+small c = year_small c.args.days c.min-hundreds.result c.min-ones.result c.requires c.min-hundreds.ensures c.min-ones.ensures
 
 pub overflow_add-result-2 : goal.overflow_add-result-2
 overflow_add-result-2 c = part_fits _ _ (small c)
@@ -17,4 +17,4 @@ pub overflow_add-result-4 : goal.overflow_add-result-4
 overflow_add-result-4 c = next_fits _ (small c)
 
 pub returns : goal.returns
-returns c = year_cut c.args.days c.at_most_three-hundreds.result c.at_most_three-ones.result c.requires c.at_most_three-hundreds.ensures c.at_most_three-ones.ensures
+returns c = year_cut c.args.days c.min-hundreds.result c.min-ones.result c.requires c.min-hundreds.ensures c.min-ones.ensures

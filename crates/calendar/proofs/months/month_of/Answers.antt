@@ -1,26 +1,15 @@
 -- `month_of` counts months off: what is left to count gives the same place each turn.
-use mathlib.Core.Path.{◌≡◌, refl, sym, ◌∙◌}
-use Prim.Native.Nat.{◌+◌, ◌-◌, suc}
-use native.Mathlib.Omega.{arith}
+use Rattle.std.proofs.Common.{◌≡◌, ◌∙◌, ◌+◌, ◌-◌, suc, sym, arith}
 use Rattle.calendar.specs.Calendar.{days_in_month}
 use Rattle.calendar.specs.Count.{count_off}
 use Rattle.calendar.specs.CountLaws.{count_here, count_next}
 use Rattle.calendar.proofs.months.month_of.Goals as goal
 
-pub loop-month-init : goal.loop-month-init
-loop-month-init c = (omega arith, refl)
-
 pub returns-then-rest-size : goal.returns-then-rest-size
 returns-then-rest-size c =
     let l = c.loop-month in
     let s = days_in_month c.args.year in
-    sym (count_here s (12 - l.month) l.month l.rest (rw c.days_in_month-size.ensures at c.if-rest-size.true)) ∙ l.invariant.1
-
-pub overflow_add-month : goal.overflow_add-month
-overflow_add-month c = omega arith
-
-pub loop-month-smaller : goal.loop-month-smaller
-loop-month-smaller c = omega arith
+    sym (count_here s (12 - l.month) l.month l.rest (rw c.days_in_month-size.ensures at c.if-rest-size.true)) ∙ l.invariant
 
 pub loop-month-preserved : goal.loop-month-preserved
 loop-month-preserved c =
@@ -28,11 +17,11 @@ loop-month-preserved c =
     let s = days_in_month c.args.year in
     let e = c.days_in_month-size.ensures in
     let k : 12 - l.month ≡ suc (12 - (l.month + 1)) = omega arith in
-    (omega arith, rw e (sym (rw k (count_next s (12 - (l.month + 1)) l.month l.rest (rw e at c.if-rest-size.false))) ∙ l.invariant.1))
+    rw e (sym (rw k (count_next s (12 - (l.month + 1)) l.month l.rest (rw e at c.if-rest-size.false))) ∙ l.invariant)
 
 pub returns : goal.returns
 unfolding count_off
 returns c =
     let l = c.loop-month in
-    let k : 12 - l.month ≡ 0 = omega arith in
-    rw k at l.invariant.1
+    let k : l.month ≡ 12 = omega arith in
+    rw k at l.invariant

@@ -1,9 +1,7 @@
 -- `put_eight` copies the eight bytes behind their marker, where both lie within and there is room.
-use mathlib.Core.Path.{ap, ◌∙◌}
 use Prim.Native.Nat.{◌+◌, ◌<◌}
 use native.Mathlib.Omega.{arith}
-use lib.ListN.{length, length-set}
-use lib.Seq.{length-sets}
+use lib.ListN.{length}
 use Rattle.tape.proofs.Tests.{lacks, has}
 use Rattle.encode.proofs.Putting.{nothing, refused, written, renamed}
 use Rattle.encode.proofs.Runs.{length_between, eight_past, eight_part}
@@ -20,15 +18,6 @@ returns-then-out-lt9 c =
     let a = c.args in
     let r = has _ _ _ c.lacks_room.ensures c.if-lacks_room.false in
     renamed _ (eight_part a.tape.now a.at a.marker r) (refused _ _ (omega (arith, length_between a.tape.now a.at 8 r)))
-
-pub overflow_add-end : goal.overflow_add-end
-overflow_add-end c = omega (arith, has _ _ _ c.lacks_room.ensures c.if-lacks_room.false)
-
-pub slice_bounds-write_bytes-end : goal.slice_bounds-write_bytes-end
-slice_bounds-write_bytes-end c = omega (arith, has _ _ _ c.lacks_room.ensures c.if-lacks_room.false)
-
-pub shape_of-out : goal.shape_of-out
-shape_of-out c = ap length c.write_bytes.ensures ∙ simp (length-sets, length-set)
 
 pub returns : goal.returns
 returns c =

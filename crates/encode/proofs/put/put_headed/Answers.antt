@@ -16,13 +16,6 @@ returns-then-lacks_room c =
     let l : length a.out.now < c.head_size.result + length a.bytes.now = lacks _ _ _ c.lacks_room.ensures c.if-lacks_room.true in
     refused _ _ (omega (arith, c.head_size.ensures, headed_length (base_of a.base) a.bytes.now))
 
-pub write_head-start-requires : goal.write_head-start-requires
-write_head-start-requires c = omega (arith, has _ _ _ c.lacks_room.ensures c.if-lacks_room.false, c.head_size.ensures)
-
-pub overflow_add-result : goal.overflow_add-result
-overflow_add-result c =
-    omega (arith, has _ _ _ c.lacks_room.ensures c.if-lacks_room.false, c.head_size.ensures, c.write_head-start.ensures.value)
-
 pub returns : goal.returns
 returns c =
     let a = c.args in

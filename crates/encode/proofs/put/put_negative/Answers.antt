@@ -9,4 +9,4 @@ returns-in_default c = rw c.in_default.is (nothing _)
 
 pub returns : goal.returns
 unfolding numbered negative
-returns c = rw c.in-Of.is c.put_marked.ensures
+returns c = rw c.in-Some.is c.put_marked.ensures

@@ -13,9 +13,9 @@ returns-in_default c = rw c.in_default.is (nothing _)
 pub returns-then-n-lt9223372036854775808 : goal.returns-then-n-lt9223372036854775808
 unfolding numbered positive integer_bytes number_bytes
 returns-then-n-lt9223372036854775808 c =
-    rw (c.in-Of.is, lt-ltb c.in-Of.n (2 ^ 63) c.if-n-lt9223372036854775808.true, ← c.size_for-size.ensures, ← c.size_marker.ensures) c.put_marked.ensures
+    rw (c.in-Some.is, lt-ltb c.in-Some.n (2 ^ 63) c.if-n-lt9223372036854775808.true, ← c.size_for-size.ensures, ← c.size_marker.ensures) c.put_marked.ensures
 
 pub returns : goal.returns
 unfolding numbered positive integer_bytes
 returns c =
-    rw (c.in-Of.is, le-ltb c.in-Of.n (2 ^ 63) c.if-n-lt9223372036854775808.false) c.put_wide.ensures
+    rw (c.in-Some.is, le-ltb c.in-Some.n (2 ^ 63) c.if-n-lt9223372036854775808.false) c.put_wide.ensures

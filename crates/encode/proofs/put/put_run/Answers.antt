@@ -1,5 +1,4 @@
 -- `put_run` puts the bytes behind their head, where they lie within the tape.
-use native.Mathlib.Omega.{arith}
 use Rattle.tape.proofs.Tests.{lacks, has}
 use Rattle.encode.specs.Put.{base_of, run_in, headed}
 use Rattle.encode.proofs.Putting.{nothing, renamed}
@@ -13,15 +12,9 @@ returns-in_default c = rw c.in_default.is (nothing _)
 pub returns-then-lacks_room : goal.returns-then-lacks_room
 returns-then-lacks_room c =
     let a = c.args in
-    rw c.in-Of.is (renamed _ (run_past a.tape.now c.in-Of.start (headed (base_of a.base)) c.in-Of.n (lacks _ _ _ c.lacks_room.ensures c.if-lacks_room.true)) (nothing _))
-
-pub overflow_add-end : goal.overflow_add-end
-overflow_add-end c = omega (arith, has _ _ _ c.lacks_room.ensures c.if-lacks_room.false)
-
-pub slice_bounds-put_headed-end : goal.slice_bounds-put_headed-end
-slice_bounds-put_headed-end c = omega (arith, has _ _ _ c.lacks_room.ensures c.if-lacks_room.false)
+    rw c.in-Some.is (renamed _ (run_past a.tape.now c.in-Some.start (headed (base_of a.base)) c.in-Some.n (lacks _ _ _ c.lacks_room.ensures c.if-lacks_room.true)) (nothing _))
 
 pub returns : goal.returns
 returns c =
     let a = c.args in
-    rw c.in-Of.is (renamed _ (run_part a.tape.now c.in-Of.start (headed (base_of a.base)) c.in-Of.n (has _ _ _ c.lacks_room.ensures c.if-lacks_room.false)) c.put_headed.ensures)
+    rw c.in-Some.is (renamed _ (run_part a.tape.now c.in-Some.start (headed (base_of a.base)) c.in-Some.n (has _ _ _ c.lacks_room.ensures c.if-lacks_room.false)) c.put_headed.ensures)

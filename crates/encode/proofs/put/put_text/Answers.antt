@@ -1,5 +1,4 @@
 -- `put_text`: with no units it is ASCII, else UTF-16.
-use native.Mathlib.Omega.{arith}
 use borrow.Author.Tests.{eq-eqb, ne_eqb}
 use Rattle.tape.proofs.Tests.{lacks, has}
 use Rattle.encode.specs.Put.{base_of, run_in, in_utf16, text_in}
@@ -23,16 +22,10 @@ pub returns-then-lacks_room : goal.returns-then-lacks_room
 unfolding text_in
 returns-then-lacks_room c =
     let a = c.args in
-    rw (ne_eqb a.units 0 c.if-units-eq0.false, c.in-Of.is) (renamed _ (run_past a.tape.now c.in-Of.start (in_utf16 a.units) c.in-Of.n (lacks _ _ _ c.lacks_room.ensures c.if-lacks_room.true)) (nothing _))
-
-pub overflow_add-end : goal.overflow_add-end
-overflow_add-end c = omega (arith, has _ _ _ c.lacks_room.ensures c.if-lacks_room.false)
-
-pub slice_bounds-put_utf16-end : goal.slice_bounds-put_utf16-end
-slice_bounds-put_utf16-end c = omega (arith, has _ _ _ c.lacks_room.ensures c.if-lacks_room.false)
+    rw (ne_eqb a.units 0 c.if-units-eq0.false, c.in-Some.is) (renamed _ (run_past a.tape.now c.in-Some.start (in_utf16 a.units) c.in-Some.n (lacks _ _ _ c.lacks_room.ensures c.if-lacks_room.true)) (nothing _))
 
 pub returns : goal.returns
 unfolding text_in
 returns c =
     let a = c.args in
-    rw (ne_eqb a.units 0 c.if-units-eq0.false, c.in-Of.is) (renamed _ (run_part a.tape.now c.in-Of.start (in_utf16 a.units) c.in-Of.n (has _ _ _ c.lacks_room.ensures c.if-lacks_room.false)) c.put_utf16.ensures)
+    rw (ne_eqb a.units 0 c.if-units-eq0.false, c.in-Some.is) (renamed _ (run_part a.tape.now c.in-Some.start (in_utf16 a.units) c.in-Some.n (has _ _ _ c.lacks_room.ensures c.if-lacks_room.false)) c.put_utf16.ensures)

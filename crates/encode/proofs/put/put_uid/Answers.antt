@@ -10,12 +10,12 @@ unfolding numbered
 returns-in_default c = rw c.in_default.is (nothing _)
 
 pub overflow_cast-size : goal.overflow_cast-size
-overflow_cast-size c = omega (arith, c.size_for-size.ensures, sized_le (sized c.in-Of.n))
+overflow_cast-size c = omega (arith, c.size_for-size.ensures, sized_le (sized c.in-Some.n))
 
 pub overflow_add-size : goal.overflow_add-size
-overflow_add-size c = omega (arith, c.size_for-size.ensures, sized_le (sized c.in-Of.n))
+overflow_add-size c = omega (arith, c.size_for-size.ensures, sized_le (sized c.in-Some.n))
 
 pub returns : goal.returns
 unfolding numbered uid_bytes
 returns c =
-    rw (c.in-Of.is, ← c.size_for-size.ensures) c.put_marked.ensures
+    rw (c.in-Some.is, ← c.size_for-size.ensures) c.put_marked.ensures

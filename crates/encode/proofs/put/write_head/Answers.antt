@@ -1,8 +1,7 @@
 -- `write_head` writes the length into the marker, or behind it.
-use mathlib.Core.Path.{ap, sym, ◌∙◌}
+use mathlib.Core.Path.{sym, ◌∙◌}
 use native.Mathlib.Omega.{arith}
-use lib.ListN.{length, length-set}
-use lib.Seq.{length-sets}
+use lib.ListN.{length-set}
 use Rattle.encode.specs.Put.{base_of}
 use Rattle.encode.proofs.Heads.{base_le, short_length, short_head, long_length, long_head}
 use Rattle.encode.proofs.put.write_head.Goals as goal
@@ -30,9 +29,6 @@ bounds-out-1 c = simp length-set (omega (arith, long_length _ c.if-n-lt15.false)
 
 pub write_number-requires : goal.write_number-requires
 write_number-requires c = simp length-set (omega (arith, c.size_for-size.ensures, long_length _ c.if-n-lt15.false))
-
-pub shape_of-out : goal.shape_of-out
-shape_of-out c = ap length c.write_number.ensures.out_after ∙ simp (length-sets, length-set)
 
 pub returns : goal.returns
 returns c =

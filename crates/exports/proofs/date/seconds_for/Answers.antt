@@ -7,12 +7,12 @@ use Rattle.calendar.specs.Date.{seconds_said}
 use Rattle.exports.specs.Date.{seconds_for}
 use Rattle.exports.proofs.date.seconds_for.Goals as goal
 
-pub returns-in-Of : goal.returns-in-Of
+pub returns-in-Some : goal.returns-in-Some
 unfolding seconds_said seconds_for
-returns-in-Of c =
-    let f : SFits w64 c.in-Of.z = search rules in
-    rw (c.in-Of.is, to_z-of_z f)
+returns-in-Some c =
+    let f : SFits w64 c.in-Some.z = search rules in
+    rw (c.in-Some.is, to_z-of_z f)
 
-pub returns-in-NoSuchTime : goal.returns-in-NoSuchTime
+pub returns-in-None : goal.returns-in-None
 unfolding seconds_said seconds_for
-returns-in-NoSuchTime c = rw c.in-NoSuchTime.is
+returns-in-None c = rw c.in-None.is

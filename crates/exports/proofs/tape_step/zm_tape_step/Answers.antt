@@ -15,14 +15,14 @@ use Rattle.exports.proofs.tape_step.zm_tape_step.Tie as tie
 tape-bytes : (x : lts.After-shared_slice_known tie.the-claims reads.Pre reads.Post tie.handed_clauses) → Bytes x.args.tape.now
 tape-bytes x = bytes_of_law x.args.tape.now (λ (i : ℕ). omega (arith, x.shared_slice_known-1.given i))
 
-pub returns-in-Bad : goal.returns-in-Bad
+pub returns-in-None : goal.returns-in-None
 unfolding next_number value_number start_number bytes_number
-returns-in-Bad c =
-    let e = sym (said_item _ _ c.step.ensures) ∙ c.in-Bad.is in
+returns-in-None c =
+    let e = sym (said_item _ _ c.step.ensures) ∙ c.in-None.is in
     (record { value = rw e; value_after = rw e; start_after = rw e; length_after = rw e; bytes = (tape-bytes c.before.before.before, search rules) })
 
-pub returns-in-Item : goal.returns-in-Item
+pub returns-in-Some : goal.returns-in-Some
 unfolding next_number value_number start_number bytes_number
-returns-in-Item c =
-    let e = sym (said_item _ _ c.step.ensures) ∙ c.in-Item.is in
+returns-in-Some c =
+    let e = sym (said_item _ _ c.step.ensures) ∙ c.in-Some.is in
     (record { value = rw e; value_after = rw e c.event_number.ensures; start_after = rw e; length_after = rw e; bytes = (tape-bytes c.before.before.before.before, search rules) })

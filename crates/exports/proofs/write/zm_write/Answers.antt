@@ -1,17 +1,19 @@
--- `zm_write` hands on the answer as numbers, and the memory as it is.
-use mathlib.Core.Path.{ap, ◌∙◌}
-use Rattle.exports.specs.Write.{write_code, write_value, expected_number, found_number}
+-- `zm_write` hands the numbers on.
+use Rattle.std.proofs.Common.{ap, ◌∙◌}
+use Rattle.exports.specs.Write.{written_numbers}
+use Rattle.exports.specs.declared.numbers.Numbers.{Numbers}
 use Rattle.exports.proofs.write.zm_write.Goals as goal
 
 pub returns : goal.returns
+unfolding written_numbers
 returns c =
-    let w = c.write_file-written.ensures in
+    let w = c.written_numbers-numbers.ensures ∙ ap written_numbers c.write_file.ensures.result_value in
     record {
-      value = c.write_code.ensures ∙ ap write_code w.result_value;
-      value_after = c.write_value.ensures ∙ ap write_value w.result_value;
-      expected_after = c.expected_number.ensures ∙ ap expected_number w.result_value;
-      found_after = c.found_number.ensures ∙ ap found_number w.result_value;
-      out_after = w.out_after;
-      work_unchanged = w.work_unchanged;
-      bytes = w.bytes;
+      value = ap (λ (x : Numbers). x.code) w;
+      value_after = ap (λ (x : Numbers). x.place) w;
+      expected_after = ap (λ (x : Numbers). x.expected) w;
+      found_after = ap (λ (x : Numbers). x.found) w;
+      out_after = c.write_file.ensures.out_after;
+      work_unchanged = c.write_file.ensures.work_unchanged;
+      bytes = c.write_file.ensures.bytes;
     }

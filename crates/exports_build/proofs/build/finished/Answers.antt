@@ -5,15 +5,15 @@ use lib.ListN.{length}
 use Rattle.builder.specs.Finish.{finish_of, finish_output}
 use Rattle.builder.specs.WordsLaws.{loaded}
 use Rattle.builder.specs.declared.state.Builder.{Builder}
-use Rattle.exports_build.specs.Build.{no_numbers, written_numbers, finish_call, finished_output, finished_used}
-use Rattle.exports.specs.Write.{first_number, second_number, write_code, write_value, expected_number, found_number}
+use Rattle.exports_build.specs.Build.{written_numbers, finish_call, finished_output, finished_used}
+use Rattle.exports.specs.Computed.{written}
 use Rattle.exports_build.proofs.build.finished.Goals as goal
 
 pub returns-then-builder-lt-WORDS : goal.returns-then-builder-lt-WORDS
-unfolding finish_call finished_output finished_used no_numbers written_numbers write_code write_value expected_number found_number first_number second_number
+unfolding finish_call finished_output finished_used written
 returns-then-builder-lt-WORDS c =
     let e = lt-ltb _ _ c.if-builder-lt-WORDS.true in
-    (record { value = rw e c.refused.ensures; out_after = rw e; work_unchanged = refl })
+    (record { value = rw e c.plain.ensures; out_after = rw e; work_unchanged = refl })
 
 pub returns : goal.returns
 unfolding finish_call finished_output finished_used

@@ -4,7 +4,7 @@ use Prim.Native.Nat.{ℕ}
 use native.Mathlib.Omega.{arith}
 use Rattle.number.specs.BeLaws.{bytes_of_law}
 use Rattle.exports_build.specs.BuildLaws.{sound_for}
-use Rattle.exports_build.specs.declared.build.Numbers.{Numbers}
+use Rattle.exports.specs.declared.numbers.Numbers.{Numbers}
 use borrow.Author.Rules.{rules}
 use Rattle.exports_build.proofs.build.zm_build.Goals as goal
 

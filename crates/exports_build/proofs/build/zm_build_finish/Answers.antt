@@ -1,6 +1,6 @@
 -- `zm_build_finish` hands the numbers on.
 use mathlib.Core.Path.{ap}
-use Rattle.exports_build.specs.declared.build.Numbers.{Numbers}
+use Rattle.exports.specs.declared.numbers.Numbers.{Numbers}
 use Rattle.exports_build.proofs.build.zm_build_finish.Goals as goal
 
 pub returns : goal.returns

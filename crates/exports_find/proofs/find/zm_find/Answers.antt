@@ -1,8 +1,17 @@
 -- `zm_find` hands on the answer as numbers.
-use mathlib.Core.Path.{ap, ◌∙◌}
+use Rattle.std.proofs.Common.{ap, ◌∙◌}
 use Rattle.exports_find.specs.Find.{find_code, find_start, find_length, find_expected, find_found}
 use Rattle.exports_find.proofs.find.zm_find.Goals as goal
 
 pub returns : goal.returns
 returns c =
-    (record { value = c.find_code.ensures ∙ ap find_code c.find-answer.ensures.result_value; start_after = c.start_number.ensures ∙ ap find_start c.find-answer.ensures.result_value; length_after = c.length_number.ensures ∙ ap find_length c.find-answer.ensures.result_value; expected_after = c.expected_number.ensures ∙ ap find_expected c.find-answer.ensures.result_value; found_after = c.found_number.ensures ∙ ap find_found c.find-answer.ensures.result_value; bytes = c.find-answer.ensures.bytes })
+    let e = c.find.ensures.result_value in
+    let n = c.found_numbers-n.ensures in
+    record {
+      value = n.code ∙ ap find_code e;
+      start_after = n.start ∙ ap find_start e;
+      length_after = n.length ∙ ap find_length e;
+      expected_after = n.expected ∙ ap find_expected e;
+      found_after = n.found ∙ ap find_found e;
+      bytes = c.find.ensures.bytes;
+    }

@@ -1,67 +1,57 @@
 -- `check_tape` is what is left of the check: every turn takes one event of it.
-use mathlib.Core.Path.{refl, sym, ◌∙◌}
+use mathlib.Core.Path.{sym, ◌∙◌}
 use Prim.Native.Nat.{ℕ}
 use native.Mathlib.Omega.{arith}
 use borrow.Author.Tests.{lt-ltb}
-use Rattle.number.specs.BeLaws.{bytes_of_law}
 use Rattle.grammar.specs.Check.{check_of}
 use Rattle.grammar.specs.Said.{checked_said}
-use Rattle.grammar.proofs.Checking.{stands_first, is_whole, is_incomplete, Met, is_less, is_barred, is_past, is_room, is_into, is_open, is_out}
+use Rattle.grammar.proofs.Checking.{stands_first, is_whole, is_incomplete, meets, is_less, is_barred, is_past, is_room, is_into, is_open, is_out}
+use Rattle.grammar.proofs.Turning.{same_nothing}
+use Rattle.grammar.proofs.check.check_tape.Goals.{in-Past, in-Into, in-Out}
 use Rattle.grammar.proofs.check.check_tape.Goals as goal
-use Rattle.grammar.proofs.check.check_tape.Lts as lts
-use Rattle.grammar.proofs.check.check_tape.Reads as reads
-use Rattle.grammar.proofs.check.check_tape.Tie as tie
-
--- the next event's way, once it is known
-met : (x : lts.After-way_at tie.the-claims reads.Pre reads.Post goal.the-invariant-loop-at goal.the-decreases-loop-at) → let l = x.loop-at in Met x.args.tape.now l.around l.depth l.due l.events l.at x.way_at-gone.result
-met x =
-    record { good = bytes_of_law x.args.tape.now (λ (i : ℕ). omega (arith, x.shared_slice_known-1.given i)); stands = x.loop-at.invariant; inside = x.loop-at-test.true; is = x.way_at-gone.ensures }
 
 pub returns-then-tape-gt-MAX_LENGTH : goal.returns-then-tape-gt-MAX_LENGTH
 unfolding checked_said check_of
 returns-then-tape-gt-MAX_LENGTH c = rw (lt-ltb _ _ c.if-tape-gt-MAX_LENGTH.true)
 
 pub loop-at-init : goal.loop-at-init
-loop-at-init c = stands_first c.args.tape.now _ refl c.if-tape-gt-MAX_LENGTH.false
+loop-at-init c = rw c.new-around.ensures (stands_first c.args.tape.now c.if-tape-gt-MAX_LENGTH.false)
 
-pub loop-at-smaller-in-Past : goal.loop-at-smaller-in-Past
-loop-at-smaller-in-Past c = is_less (met c.before.before) (rw c.in-Past.is tt)
+pub push-requires : goal.push-requires
+push-requires c =
+    is_room (meets (λ (i : ℕ). omega (arith, c.type_inv.tape i)) c.loop-at.invariant c.loop-at-test.true c.depth.ensures c.way_at-gone.ensures) c.in-Into.is
 
-pub loop-at-preserved-in-Past : goal.loop-at-preserved-in-Past
-loop-at-preserved-in-Past c = is_past (met c.before.before) c.in-Past.is
-
-pub bounds-around-depth : goal.bounds-around-depth
-bounds-around-depth c = omega (arith, is_room (met c.before.before) c.in-Into.is)
-
-pub overflow_add-depth : goal.overflow_add-depth
-overflow_add-depth c = omega (arith, is_room (met c.before.before) c.in-Into.is)
-
-pub loop-at-smaller-in-Into : goal.loop-at-smaller-in-Into
-loop-at-smaller-in-Into c = is_less (met c.before.before) (rw c.in-Into.is tt)
-
-pub loop-at-preserved-in-Into : goal.loop-at-preserved-in-Into
-loop-at-preserved-in-Into c = is_into (met c.before.before) c.in-Into.is
-
-pub overflow_sub-depth : goal.overflow_sub-depth
-overflow_sub-depth c = omega (arith, is_open (met c.before.before) c.in-Out.is)
-
-pub bounds-around-depth-in-Out : goal.bounds-around-depth-in-Out
-bounds-around-depth-in-Out c = omega (arith, is_open (met c.before.before) c.in-Out.is, c.loop-at.invariant.shallow)
-
-pub loop-at-smaller : goal.loop-at-smaller
-loop-at-smaller c = is_less (met c.before.before.before) (rw c.in-Out.is tt)
+pub pop-due-requires : goal.pop-due-requires
+pop-due-requires c =
+    is_open (meets (λ (i : ℕ). omega (arith, c.type_inv.tape i)) c.loop-at.invariant c.loop-at-test.true c.depth.ensures c.way_at-gone.ensures) c.in-Out.is
 
 pub loop-at-preserved : goal.loop-at-preserved
-loop-at-preserved c = is_out (met c.before.before.before) c.in-Out.is
+loop-at-preserved c =
+    let m = meets (λ (i : ℕ). omega (arith, c.type_inv.tape i)) c.loop-at.invariant c.loop-at-test.true c.depth.ensures c.way_at-gone.ensures in
+    elim c.match-gone.branch [
+      | in-Past w ↦ rw (w.around-is, w.due-is) (is_past m w.in-Past.is)
+      | in-Into w ↦ rw (w.around-is, w.due-is, w.push.ensures) (is_into m w.in-Into.is)
+      | in-Out w ↦ rw (w.around-is, w.due-is) (is_out m w.in-Out.is w.pop-due.ensures)
+    ]
+
+pub loop-at-smaller : goal.loop-at-smaller
+loop-at-smaller c =
+    let m = meets (λ (i : ℕ). omega (arith, c.type_inv.tape i)) c.loop-at.invariant c.loop-at-test.true c.depth.ensures c.way_at-gone.ensures in
+    elim c.match-gone.branch [
+      | in-Past w ↦ is_less m (rw w.in-Past.is tt)
+      | in-Into w ↦ is_less m (rw w.in-Into.is tt)
+      | in-Out w ↦ is_less m (rw w.in-Out.is tt)
+    ]
 
 pub returns-in-Barred : goal.returns-in-Barred
 unfolding checked_said
-returns-in-Barred c = is_barred (met c.before.before) c.in-Barred.is
+returns-in-Barred c =
+    is_barred (meets (λ (i : ℕ). omega (arith, c.type_inv.tape i)) c.loop-at.invariant c.loop-at-test.true c.depth.ensures c.way_at-gone.ensures) c.in-Barred.is
 
-pub returns-then-is_nothing : goal.returns-then-is_nothing
+pub returns-then-eq : goal.returns-then-eq
 unfolding checked_said
-returns-then-is_nothing c = is_whole c.loop-at.invariant c.loop-at-test.false (sym c.is_nothing.ensures ∙ c.if-is_nothing.true)
+returns-then-eq c = is_whole c.loop-at.invariant c.loop-at-test.false (sym (same_nothing c.loop-at.due) ∙ sym c.eq.ensures ∙ c.if-eq.true)
 
 pub returns : goal.returns
 unfolding checked_said
-returns c = is_incomplete c.loop-at.invariant c.loop-at-test.false (sym c.is_nothing.ensures ∙ c.if-is_nothing.false)
+returns c = is_incomplete c.loop-at.invariant c.loop-at-test.false (sym (same_nothing c.loop-at.due) ∙ sym c.eq.ensures ∙ c.if-eq.false)

@@ -1,4 +1,5 @@
 -- `read_at` reads eight bytes and drops those behind the number, where eight are left.
+use Rattle.std.specs.Prelude.{Some}
 use mathlib.Core.Path.{sym, ap, ◌∙◌}
 use Prim.Native.Nat.{◌+◌, ◌≤◌}
 use native.Mathlib.Omega.{arith}
@@ -6,7 +7,6 @@ use borrow.Author.Tests.{le-leb, ltb-false}
 use lib.ListN.{length}
 use Rattle.number.specs.BeLaws.{bytes_of_law}
 use Rattle.object.specs.EightLaws.{shifted}
-use Rattle.layout.specs.declared.layout.Entry.TheVariants.{Of}
 use Rattle.layout.proofs.layout.read_at.Goals as goal
 use Rattle.layout.proofs.layout.read_at.Goals.{Else-lacks_eight}
 
@@ -29,4 +29,4 @@ returns c =
     let p = c.requires in
     let h : a.at + a.bytes ≤ length a.file.now = omega (arith, left (goal.at.returns c).Else-lacks_eight) in
     let b = bytes_of_law a.file.now (λ i. omega (arith, c.type_inv.file i)) in
-    rw (le-leb _ _ h) (ap Of (rw c.read_eight-eight.ensures (shifted a.file.now a.at a.bytes b p.1 (left (goal.at.returns c).Else-lacks_eight))))
+    rw (le-leb _ _ h) (ap Some (rw c.read_eight-eight.ensures (shifted a.file.now a.at a.bytes b p.1 (left (goal.at.returns c).Else-lacks_eight))))

@@ -14,5 +14,5 @@ returns-in_default c =
 pub returns : goal.returns
 unfolding dated_said date_row dated numeral_of
 returns c =
-    let e = sym c.calendar_of.ensures ∙ ap dated_said c.in-At.is in
+    let e = sym c.calendar_of.ensures ∙ ap dated_said c.in-Some.is in
     rw e c.put_row.ensures

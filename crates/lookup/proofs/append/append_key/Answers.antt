@@ -1,4 +1,6 @@
 -- `append_key`: what is held is read, then the path grows.
+use Rattle.std.specs.Prelude.{Some}
+use mathlib.Core.List.{List}
 use mathlib.Core.Path.{◌≡◌, sym, ◌∙◌}
 use Prim.Native.Nat.{ℕ, ◌≤◌, ◌<◌}
 use native.Mathlib.Omega.{arith}
@@ -7,20 +9,18 @@ use lib.ListN.{length, take}
 use lib.Seq.{length-take-le}
 use Rattle.number.specs.BeLaws.{Bytes, bytes_of_law}
 use Rattle.tape.specs.Value.{number_at}
-use Rattle.tape.specs.declared.value.Value.TheVariants.{Of}
+use Rattle.lookup.specs.Path.{keys_of}
 use Rattle.lookup.specs.AppendLaws.{held_none, begun, held_long, held_uncounted, held_bad, keys_known, held_grows, grown_is}
 use Rattle.lookup.proofs.append.append_key.Goals as goal
-use Rattle.lookup.proofs.append.append_key.Lts as lts
-use Rattle.lookup.proofs.append.append_key.Reads as reads
-use Rattle.lookup.proofs.append.append_key.Tie as tie
+use Rattle.lookup.proofs.append.append_key.Goals.{After-has_keys, Else-not-has_keys}
 
 -- the count is read, and the keys looked for
-module _ (x : lts.After-has_keys tie.the-claims reads.Pre reads.Post tie.handed_clauses) where
+module _ (x : After-has_keys) where
   abbrev count_of : ℕ
-  count_of = x.in-Of.count
+  count_of = x.in-Some.count
 
   abbrev first_of : ℕ
-  first_of = x.in-Of.first
+  first_of = x.in-Some.first
 
   good : Bytes x.args.path.now
   good = bytes_of_law x.args.path.now (λ (i : ℕ). omega (arith, x.slice_known-1.given i))
@@ -31,8 +31,8 @@ module _ (x : lts.After-has_keys tie.the-claims reads.Pre reads.Post tie.handed_
   short : length x.args.path.now < 0x8000000000000000
   short = search rules
 
-  number : number_at (take x.args.held x.args.path.now) 0 ≡ Of count_of first_of
-  number = sym x.number_at.ensures ∙ x.in-Of.is
+  number : number_at (take x.args.held x.args.path.now) 0 ≡ Some (count_of, first_of)
+  number = sym x.number_at.ensures ∙ x.in-Some.is
 
 pub grow-requires : goal.grow-requires
 grow-requires c = held_none _
@@ -59,20 +59,34 @@ returns-in_default c =
 pub slice_bounds-has_keys-end-2 : goal.slice_bounds-has_keys-end-2
 slice_bounds-has_keys-end-2 c = sym (length-take-le _ _ (omega arith))
 
-pub grow-requires-then-has_keys : goal.grow-requires-then-has_keys
-grow-requires-then-has_keys c =
+pub returns-then-not-has_keys : goal.returns-then-not-has_keys
+returns-then-not-has_keys c =
     let a = c.args in
-    let k = keys_known a.path.now a.key.now a.held c.if-held-eq0.false (inside c.before.before.before) (good c.before.before.before) (count_of c.before.before.before) (first_of c.before.before.before) (number c.before.before.before) (sym c.has_keys.ensures ∙ c.if-has_keys.true) in
-    held_grows a.path.now a.key.now a.held c.if-held-eq0.false (inside c.before.before.before) (good c.before.before.before) (count_of c.before.before.before) (first_of c.before.before.before) (number c.before.before.before) k.0 k.1 (short c.before.before.before)
+    let x = (goal.at.returns-then-not-has_keys c).After-has_keys in
+    let both = held_bad a.path.now a.key.now a.held c.if-held-eq0.false (inside x) (good x) (count_of x) (first_of x) (number x) (sym c.has_keys.ensures ∙ c.if-not-has_keys.true) in
+    record { value = both.0; path_after = both.1 }
 
-pub returns-then-has_keys : goal.returns-then-has_keys
-returns-then-has_keys c =
+-- the keys are there
+module _ (y : Else-not-has_keys) where
+  abbrev read : After-has_keys
+  read = (goal.at.Else-not-has_keys y).After-has_keys
+
+  known : (keys : List (List ℕ)) × (keys_of (take y.args.held y.args.path.now) ≡ Some keys)
+  known = keys_known y.args.path.now y.args.key.now y.args.held y.if-held-eq0.false (inside read) (good read) (count_of read) (first_of read) (number read) (sym y.has_keys.ensures ∙ y.if-not-has_keys.false)
+
+pub grow-requires-2 : goal.grow-requires-2
+grow-requires-2 c =
     let a = c.args in
-    let k = keys_known a.path.now a.key.now a.held c.if-held-eq0.false (inside c.before.before.before.before.before.before) (good c.before.before.before.before.before.before) (count_of c.before.before.before.before.before.before) (first_of c.before.before.before.before.before.before) (number c.before.before.before.before.before.before) (sym c.has_keys.ensures ∙ c.if-has_keys.true) in
-    let i = grown_is a.path.now a.key.now a.held c.if-held-eq0.false (inside c.before.before.before.before.before.before) (good c.before.before.before.before.before.before) (count_of c.before.before.before.before.before.before) (first_of c.before.before.before.before.before.before) (number c.before.before.before.before.before.before) k.0 k.1 in
-    (record { value = c.grow-then-has_keys.ensures.value ∙ i.0; path_after = c.grow-then-has_keys.ensures.path_after ∙ i.1 })
+    let y = (goal.at.grow-requires-2 c).Else-not-has_keys in
+    let x = read y in
+    let k = known y in
+    held_grows a.path.now a.key.now a.held c.if-held-eq0.false (inside x) (good x) (count_of x) (first_of x) (number x) k.0 k.1 (short x)
 
 pub returns : goal.returns
 returns c =
     let a = c.args in
-    let both = held_bad a.path.now a.key.now a.held c.if-held-eq0.false (inside c.before.before) (good c.before.before) (count_of c.before.before) (first_of c.before.before) (number c.before.before) (sym c.has_keys.ensures ∙ c.if-has_keys.false) in record { value = both.0; path_after = both.1 }
+    let y = (goal.at.returns c).Else-not-has_keys in
+    let x = read y in
+    let k = known y in
+    let i = grown_is a.path.now a.key.now a.held c.if-held-eq0.false (inside x) (good x) (count_of x) (first_of x) (number x) k.0 k.1 in
+    record { value = c.grow-2.ensures.value ∙ i.0; path_after = c.grow-2.ensures.path_after ∙ i.1 }

@@ -11,14 +11,12 @@ use Rattle.tape.specs.Seven.{seven}
 use Rattle.tape.specs.SevenLaws.{seven_few}
 use Rattle.lookup.specs.Append.{grown}
 use Rattle.lookup.specs.declared.append.Added.TheVariants.{Held}
-use Rattle.lookup.proofs.Growing.{grow_not, grow_held, grow_all}
+use Rattle.lookup.proofs.Growing.{moved_is, grow_not, grow_held, grow_all}
 use Rattle.lookup.proofs.append.grow.Goals as goal
-use Rattle.lookup.proofs.append.grow.Lts as lts
-use Rattle.lookup.proofs.append.grow.Reads as reads
-use Rattle.lookup.proofs.append.grow.Tie as tie
+use Rattle.lookup.proofs.append.grow.Goals.{After-groups-length_end, Else-lacks_room}
 
 -- both numbers are made: what is lent, and what is written
-module _ (x : lts.After-measured2 tie.the-claims reads.Pre reads.Post tie.handed_clauses) where
+module _ (x : After-groups-length_end) where
   abbrev held_of : ℕ
   held_of = x.args.held
 
@@ -50,54 +48,72 @@ module _ (x : lts.After-measured2 tie.the-claims reads.Pre reads.Post tie.handed
   sum = ap (λ (n : ℕ). n + length x.args.key.now) is_start
 
 pub overflow_add-at : goal.overflow_add-at
-overflow_add-at c = omega (arith, is_up c.before, count-few c.before, c.requires.inside)
+overflow_add-at c = let x = (goal.at.overflow_add-at c).After-groups-length_end in omega (arith, is_up x, count-few x, c.requires.inside)
 
 pub overflow_add-start : goal.overflow_add-start
-overflow_add-start c = omega (arith, is_up c.before, count-few c.before, c.requires.inside, is_start c.before, measure-few c.before, c.groups-length_end.ensures.value)
+overflow_add-start c =
+    let x = (goal.at.overflow_add-start c).After-groups-length_end in
+    omega (arith, is_up x, count-few x, c.requires.inside, is_start x, measure-few x, c.groups-length_end.ensures.value)
 
 pub returns-then-lacks_room : goal.returns-then-lacks_room
 unfolding grown
 returns-then-lacks_room c =
-    let x = c.before.before in
-    let both = grow_not c.args.path.now c.args.held c.args.first (up c.before.before.before) (count c.before.before.before) (measure c.before.before.before) c.args.key.now c.requires.within c.requires.inside (is_up c.before.before.before)
-    (sym (ap (ltb (length c.args.path.now)) (sum c.before.before.before)) ∙ sym c.lacks_room.ensures ∙ c.if-lacks_room.true) in record { value = both.0; path_after = both.1 }
+    let x = (goal.at.returns-then-lacks_room c).After-groups-length_end in
+    let both = grow_not c.args.path.now c.args.held c.args.first (up x) (count x) (measure x) c.args.key.now c.requires.within c.requires.inside (is_up x)
+    (sym (ap (ltb (length c.args.path.now)) (sum x)) ∙ sym c.lacks_room.ensures ∙ c.if-lacks_room.true) in
+    record { value = both.0; path_after = both.1 }
 
 -- there is room
-module _ (y : lts.Else1 tie.the-claims reads.Pre reads.Post tie.handed_clauses) where
-  fits : ltb (length y.args.path.now) (held_of y.before.before + up y.before.before + length (measure y.before.before) + length y.args.key.now) ≡ false
-  fits = sym (ap (ltb (length y.args.path.now)) (sum y.before.before)) ∙ sym y.lacks_room.ensures ∙ y.if-lacks_room.false
+module _ (y : Else-lacks_room) where
+  abbrev made : After-groups-length_end
+  made = (goal.at.Else-lacks_room y).After-groups-length_end
 
-  room : held_of y.before.before + up y.before.before + length (measure y.before.before) + length y.args.key.now ≤ length y.args.path.now
+  fits : ltb (length y.args.path.now) (y.args.held + up made + length (measure made) + length y.args.key.now) ≡ false
+  fits = sym (ap (ltb (length y.args.path.now)) (sum made)) ∙ sym y.lacks_room.ensures ∙ y.if-lacks_room.false
+
+  room : y.args.held + up made + length (measure made) + length y.args.key.now ≤ length y.args.path.now
   room = ltb-false _ _ fits
 
-pub move_up-requires : goal.move_up-requires
-move_up-requires c = (c.requires.within, omega (arith, room c.before.before))
+  -- the keys go up to where their new count ends
+  rises : y.args.held + up made ≤ length y.args.path.now
+  rises = omega (arith, room)
+
+pub copy_within-requires : goal.copy_within-requires
+copy_within-requires c =
+    let y = (goal.at.copy_within-requires c).Else-lacks_room in
+    record { start_le_end = c.requires.within; in_bounds = c.requires.inside; dest_in_bounds = omega (arith, rises y, c.requires.within); not_exhausted = tt }
 
 pub slice_bounds-write_bytes-end : goal.slice_bounds-write_bytes-end
-slice_bounds-write_bytes-end c = omega (arith, c.groups-count_end.ensures.value, count-few c.before.before.before.before.before.before.before.before)
+slice_bounds-write_bytes-end c = omega (arith, c.groups-count_end.ensures.value, count-few (goal.at.slice_bounds-write_bytes-end c).After-groups-length_end)
 
 pub slice_bounds-write_bytes-end-2 : goal.slice_bounds-write_bytes-end-2
-slice_bounds-write_bytes-end-2 c = omega (arith, c.groups-length_end.ensures.value, measure-few c.before.before.before.before.before.before.before.before.before.before.before.before.before)
+slice_bounds-write_bytes-end-2 c =
+    omega (arith, c.groups-length_end.ensures.value, measure-few (goal.at.slice_bounds-write_bytes-end-2 c).After-groups-length_end)
 
 pub overflow_add-result : goal.overflow_add-result
-overflow_add-result c = omega (arith, room c.before.before.before.before.before.before.before.before.before.before.before.before.before.before.before.before.before.before.before, is_start c.before.before.before.before.before.before.before.before.before.before.before.before.before.before.before.before.before.before.before.before.before)
+overflow_add-result c =
+    let y = (goal.at.overflow_add-result c).Else-lacks_room in
+    omega (arith, room y, is_start (made y))
 
 pub returns : goal.returns
 unfolding grown
 returns c =
+    let y = (goal.at.returns c).Else-lacks_room in
+    let x = made y in
     let m = c.args.path.now in
     let g = c.groups-count_end in
     let h = c.groups-length_end in
-    let n : g.result - 1 ≡ length (count c.before.before.before.before.before.before.before.before.before.before.before.before.before.before.before.before.before.before.before.before.before) = omega (arith, c.groups-count_end.ensures.value) in
-    let o : h.result - 1 ≡ length (measure c.before.before.before.before.before.before.before.before.before.before.before.before.before.before.before.before.before.before.before.before.before) = omega (arith, c.groups-length_end.ensures.value) in (record {
-      value = ap Held (sum c.before.before.before.before.before.before.before.before.before.before.before.before.before.before.before.before.before.before.before.before.before) ∙ grow_held m c.args.held c.args.first (up c.before.before.before.before.before.before.before.before.before.before.before.before.before.before.before.before.before.before.before.before.before) (count c.before.before.before.before.before.before.before.before.before.before.before.before.before.before.before.before.before.before.before.before.before) (measure c.before.before.before.before.before.before.before.before.before.before.before.before.before.before.before.before.before.before.before.before.before) c.args.key.now c.requires.within c.requires.inside (is_up c.before.before.before.before.before.before.before.before.before.before.before.before.before.before.before.before.before.before.before.before.before) (fits c.before.before.before.before.before.before.before.before.before.before.before.before.before.before.before.before.before.before.before);
-      path_after = grow_all m c.args.held c.args.first (up c.before.before.before.before.before.before.before.before.before.before.before.before.before.before.before.before.before.before.before.before.before) (count c.before.before.before.before.before.before.before.before.before.before.before.before.before.before.before.before.before.before.before.before.before) (measure c.before.before.before.before.before.before.before.before.before.before.before.before.before.before.before.before.before.before.before.before.before) c.args.key.now c.requires.within c.requires.inside (is_up c.before.before.before.before.before.before.before.before.before.before.before.before.before.before.before.before.before.before.before.before.before) (fits c.before.before.before.before.before.before.before.before.before.before.before.before.before.before.before.before.before.before.before) _ _ _ _ _ _ _ _
-          c.move_up.ensures
+    let n : g.result - 1 ≡ length (count x) = omega (arith, g.ensures.value) in
+    let o : h.result - 1 ≡ length (measure x) = omega (arith, h.ensures.value) in
+    record {
+      value = ap Held (sum x) ∙ grow_held m c.args.held c.args.first (up x) (count x) (measure x) c.args.key.now c.requires.within c.requires.inside (is_up x) (fits y);
+      path_after = grow_all m c.args.held c.args.first (up x) (count x) (measure x) c.args.key.now c.requires.within c.requires.inside (is_up x) (fits y) _ _ _ _ _ _ _ _
+          (c.copy_within.ensures.after ∙ moved_is m c.args.first c.args.held (up x) c.requires.within (rises y))
           c.write_bytes.ensures
-          (ap (λ (k : ℕ). take k (drop 1 g.new.memory)) n ∙ c.groups-count_end.ensures.n_after)
+          (ap (λ (k : ℕ). take k (drop 1 g.new.memory)) n ∙ g.ensures.n_after)
           c.write_bytes-2.ensures
           refl
-          (ap (λ (k : ℕ). take k (drop 1 h.new.memory)) o ∙ c.groups-length_end.ensures.n_after)
+          (ap (λ (k : ℕ). take k (drop 1 h.new.memory)) o ∙ h.ensures.n_after)
           c.write_bytes-3.ensures
-          (is_start c.before.before.before.before.before.before.before.before.before.before.before.before.before.before.before.before.before.before.before.before.before);
-    })
+          (is_start x);
+    }

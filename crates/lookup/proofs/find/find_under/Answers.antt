@@ -1,70 +1,43 @@
 -- `find_under`: every turn takes one key.
-use mathlib.Core.Path.{◌≡◌, refl, sym, ◌∙◌}
-use Prim.Native.Nat.{ℕ}
-use native.Mathlib.Omega.{arith}
-use Rattle.lookup.specs.Find.{found_said}
-use Rattle.lookup.specs.Path.{key_at}
+use Rattle.std.proofs.Common.{◌≡◌, ◌+◌, ◌-◌, sym, ◌∙◌, arith}
+use Rattle.lookup.specs.Find.{part_said}
 use Rattle.lookup.specs.PathLaws.{key_room}
-use Rattle.lookup.specs.Rest.{events_at}
 use Rattle.lookup.proofs.FindLaws.{behind_later}
-use Rattle.lookup.specs.declared.path.Key.TheVariants.{Of}
-use Rattle.lookup.proofs.Finding.{left_key, left_end, left_none, left_again}
+use Rattle.lookup.proofs.Finding.{left_first, left_key, left_end, left_none, left_again}
 use Rattle.lookup.proofs.find.find_under.Goals as goal
-use Rattle.lookup.proofs.find.find_under.Lts as lts
-use Rattle.lookup.proofs.find.find_under.Reads as reads
-use Rattle.lookup.proofs.find.find_under.Tie as tie
 
-pub loop-left-init : goal.loop-left-init
-unfolding events_at
-loop-left-init c = record { rest = c.requires.0; known = c.requires.1; same = refl }
+pub loop-init : goal.loop-init
+loop-init c = left_first _ _ _ _ c.requires.0 c.requires.1
 
-pub returns-in_default : goal.returns-in_default
-returns-in_default c =
-    absurd (left_key c.loop-left.invariant c.loop-left-test.true (sym c.key_at.ensures ∙ c.in_default.is))
+pub returns-in_err-key : goal.returns-in_err-key
+returns-in_err-key c = absurd (left_key c.loop.invariant (omega arith) (sym c.key_at.ensures ∙ c.in_err-key.was))
 
--- where the key's bytes begin, and how many there are
-abbrev start_of : (x : lts.Past-After-known_told tie.the-claims reads.Pre reads.Post goal.the-invariant-loop-left goal.the-decreases-loop-left) → ℕ
-start_of x = x.in-Of.start
-
-abbrev size_of : (x : lts.Past-After-known_told tie.the-claims reads.Pre reads.Post goal.the-invariant-loop-left goal.the-decreases-loop-left) → ℕ
-size_of x = x.in-Of.n
-
-told : (x : lts.Past-After-known_told tie.the-claims reads.Pre reads.Post goal.the-invariant-loop-left goal.the-decreases-loop-left) → key_at x.args.path.now x.loop-left.key ≡ Of (start_of x) (size_of x)
-told x = sym x.key_at.ensures ∙ x.in-Of.is
-
-pub overflow_add-key : goal.overflow_add-key
-overflow_add-key c = omega (arith, key_room _ _ _ _ (told c.before))
+pub overflow_add-next : goal.overflow_add-next
+overflow_add-next c = omega (arith, key_room c.args.path.now c.loop.next c.in_ok-key.key (sym c.key_at.ensures ∙ c.in_ok-key.was))
 
 pub slice_bounds-value_under-end : goal.slice_bounds-value_under-end
-slice_bounds-value_under-end c = omega (arith, key_room _ _ _ _ (told c.before))
+slice_bounds-value_under-end c = key_room c.args.path.now c.loop.next c.in_ok-key.key (sym c.key_at.ensures ∙ c.in_ok-key.was)
 
 pub value_under-requires : goal.value_under-requires
-value_under-requires c = c.loop-left.invariant.rest
+value_under-requires c = c.loop.invariant.rest
 
-pub returns-in_default-value_under : goal.returns-in_default-value_under
-unfolding found_said
-returns-in_default-value_under c =
-    let x = c.before.before.before.before in
-    left_none c.loop-left.invariant c.loop-left-test.true (told c.before.before.before.before) c.in_default-value_under.is c.value_under.ensures
+pub returns-in_err-at : goal.returns-in_err-at
+unfolding part_said
+returns-in_err-at c =
+    rw c.from_residual-in_err-at.ensures (left_none c.loop.invariant (omega arith) (sym c.key_at.ensures ∙ c.in_ok-key.was) (rw c.in_err-at.was at c.value_under.ensures))
 
-pub loop-left-smaller : goal.loop-left-smaller
-loop-left-smaller c = omega arith
-
-pub loop-left-preserved : goal.loop-left-preserved
-loop-left-preserved c =
-    let x = c.before.before.before.before.before in
-    left_again c.loop-left.invariant c.loop-left-test.true (told c.before.before.before.before) c.in-At.is c.value_under.ensures
+pub loop-preserved : goal.loop-preserved
+loop-preserved c =
+    let l = c.loop in
+    let e : c.args.count - l.counter - 1 ≡ c.args.count - (l.counter + 1) = omega arith in
+    rw (← e) (left_again l.invariant (omega arith) (sym c.key_at.ensures ∙ c.in_ok-key.was) (rw c.in_ok-at.was at c.value_under.ensures))
 
 pub value_end-requires : goal.value_end-requires
-value_end-requires c = c.loop-left.invariant.rest
+value_end-requires c = c.loop.invariant.rest
 
-pub overflow_sub-result : goal.overflow_sub-result
-overflow_sub-result c =
-    let l = c.loop-left in
-    behind_later l.invariant.rest c.value_end.ensures
+pub overflow_sub-length : goal.overflow_sub-length
+overflow_sub-length c = behind_later c.loop.invariant.rest c.value_end.ensures
 
 pub returns : goal.returns
-unfolding found_said
-returns c =
-    let l = c.loop-left in
-    left_end l.invariant (omega arith) c.value_end.ensures
+unfolding part_said
+returns c = left_end c.loop.invariant (omega arith) c.value_end.ensures

@@ -1,21 +1,17 @@
 -- `deeper`: an end leaves the container that is open, if any is.
-use native.Mathlib.Omega.{arith}
-use borrow.Author.Tests.{lt-ltb, le-ltb}
+use Rattle.std.proofs.Common.{arith}
+use Rattle.std.proofs.lemmas.Bool.Decides.{nat_tests}
 use Rattle.lookup.specs.Rest.{deeper_by}
 use Rattle.lookup.proofs.seek.deeper.Goals as goal
 
-pub returns-then-kind-lt10 : goal.returns-then-kind-lt10
+pub returns-in-0-to-9 : goal.returns-in-0-to-9
 unfolding deeper_by
-returns-then-kind-lt10 c = rw (lt-ltb _ _ c.if-kind-lt10.true)
+returns-in-0-to-9 c = grind (arith, nat_tests)
 
-pub returns-then-kind-lt14 : goal.returns-then-kind-lt14
+pub returns-in-10-to-13 : goal.returns-in-10-to-13
 unfolding deeper_by
-returns-then-kind-lt14 c = rw (le-ltb _ _ c.if-kind-lt10.false, lt-ltb _ _ c.if-kind-lt14.true) (omega arith)
+returns-in-10-to-13 c = grind (arith, nat_tests)
 
-pub returns-then-depth-eq0 : goal.returns-then-depth-eq0
+pub returns-in_default : goal.returns-in_default
 unfolding deeper_by
-returns-then-depth-eq0 c = rw (le-ltb _ _ c.if-kind-lt10.false, le-ltb _ _ c.if-kind-lt14.false) (omega arith)
-
-pub returns : goal.returns
-unfolding deeper_by
-returns c = rw (le-ltb _ _ c.if-kind-lt10.false, le-ltb _ _ c.if-kind-lt14.false)
+returns-in_default c = grind (arith, nat_tests)

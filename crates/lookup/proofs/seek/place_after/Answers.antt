@@ -6,4 +6,4 @@ pub returns-in_default : goal.returns-in_default
 returns-in_default c m next e = absurd (after_none _ _ c.end_of.ensures m next e c.in_default.is)
 
 pub returns : goal.returns
-returns c m next e = after_at _ _ c.end_of.ensures m next e c.in-At.next c.in-At.is
+returns c m next e = after_at _ _ c.end_of.ensures m next e c.in-Some.next c.in-Some.is

@@ -1,11 +1,7 @@
--- `is_among` looks at all numbers: what is left of them decides, with what was found before.
-use Prim.Native.Nat.{◌≤◌, ◌-◌}
-use lib.ListN.{length}
-use Rattle.reader.proofs.Decides.{Decides}
+-- `is_among` looks at all numbers: what was found before and what is left decide.
+use Rattle.std.proofs.Common.{◌≡◌, ◌||◌, drop}
+use Rattle.number.specs.Among.{among}
 use Rattle.reader.proofs.opened.is_among.Given as goal
 
-abbrev pub invariant-loop-i : goal.invariant-loop-i
-invariant-loop-i l = (l.i ≤ length l.numbers) × Decides l.numbers l.number l.found l.i
-
-abbrev pub decreases-loop-i : goal.decreases-loop-i
-decreases-loop-i l = length l.numbers - l.i
+abbrev pub invariant-loop-other : goal.invariant-loop-other
+invariant-loop-other l = (l.found || among (drop l.other-index l.numbers) l.number) ≡ among l.numbers l.number

@@ -54,12 +54,12 @@ returns-then-scratch-bytes c =
     let e = sym c.asked_for.ensures ∙ ap asked_said c.in-InUtf16.is in
     let h = rw e at (asked_in a.file.now a.handed) in
     let u = c.utf8_length in
-    rw e (sym (part_none a.file.now a.scratch.now p.start p.length h.1 u.result u.ensures _ c.in-Bytes.is c.if-scratch-bytes.true))
+    rw e (sym (part_none a.file.now a.scratch.now p.start p.length h.1 u.result u.ensures _ c.in-Some.is c.if-scratch-bytes.true))
 
 pub slice_bounds-result-end-in-InUtf16 : goal.slice_bounds-result-end-in-InUtf16
 slice_bounds-result-end-in-InUtf16 c =
     let a = c.args in
-    sym (length-take-le c.in-Bytes.bytes a.scratch.now (omega arith))
+    sym (length-take-le c.in-Some.bytes a.scratch.now (omega arith))
 
 pub returns-in-InFile : goal.returns-in-InFile
 unfolding asked_said part_said
@@ -76,7 +76,7 @@ returns-else-scratch-bytes c =
     let e = sym c.asked_for.ensures ∙ ap asked_said c.in-InUtf16.is in
     let h = rw e at (asked_in a.file.now a.handed) in
     let u = c.utf8_length in
-    rw e (sym (part_some a.file.now a.scratch.now p.start p.length h.1 u.result u.ensures _ c.in-Bytes.is c.if-scratch-bytes.false))
+    rw e (sym (part_some a.file.now a.scratch.now p.start p.length h.1 u.result u.ensures _ c.in-Some.is c.if-scratch-bytes.false))
 
 pub returns-in-NoBytes : goal.returns-in-NoBytes
 unfolding asked_said part_said

@@ -1,50 +1,35 @@
 -- `is_bad`: text and dates are checked, and nothing else is bad.
-use mathlib.Core.Bool.{not}
-use mathlib.Core.Path.{ap}
+use mathlib.Core.Bool.{false, not}
+use mathlib.Core.List.{List}
+use mathlib.Core.Path.{◌≡◌, refl, ap}
+use Prim.Native.Nat.{ℕ}
 use Rattle.event.specs.Meaning.{meaning_of}
+use Rattle.event.specs.declared.Event.{Event}
+use Rattle.event.specs.declared.Event.TheVariants.{StartArray, StartDictionary, EndCollection, Boolean, Data, Date, Integer, Real, Nan, String, Uid}
 use Rattle.tape.specs.Code.{allowed}
 use Rattle.tape.proofs.append.is_bad.Goals as goal
 
-pub returns-in-StartArray : goal.returns-in-StartArray
+other : (e : Event) (s : List ℕ) → ((b : ℕ) → e ≡ Date b → ⊥) → (e ≡ String → ⊥) → false ≡ not (allowed (meaning_of e s))
 unfolding meaning_of allowed
-returns-in-StartArray c = rw c.in-StartArray.is
-
-pub returns-in-StartDictionary : goal.returns-in-StartDictionary
-unfolding meaning_of allowed
-returns-in-StartDictionary c = rw c.in-StartDictionary.is
-
-pub returns-in-EndCollection : goal.returns-in-EndCollection
-unfolding meaning_of allowed
-returns-in-EndCollection c = rw c.in-EndCollection.is
-
-pub returns-in-Boolean : goal.returns-in-Boolean
-unfolding meaning_of allowed
-returns-in-Boolean c = rw c.in-Boolean.is
-
-pub returns-in-Data : goal.returns-in-Data
-unfolding meaning_of allowed
-returns-in-Data c = rw c.in-Data.is
+other (StartArray n) s no_date no_text = refl
+other (StartDictionary n) s no_date no_text = refl
+other EndCollection s no_date no_text = refl
+other (Boolean b) s no_date no_text = refl
+other Data s no_date no_text = refl
+other (Date b) s no_date no_text = absurd (no_date b refl)
+other (Integer i) s no_date no_text = refl
+other (Real x) s no_date no_text = refl
+other (Nan b) s no_date no_text = refl
+other String s no_date no_text = absurd (no_text refl)
+other (Uid n) s no_date no_text = refl
 
 pub returns-in-Date : goal.returns-in-Date
 unfolding meaning_of allowed
 returns-in-Date c = rw c.in-Date.is (ap not c.is_date.ensures)
 
-pub returns-in-Integer : goal.returns-in-Integer
-unfolding meaning_of allowed
-returns-in-Integer c = rw c.in-Integer.is
-
-pub returns-in-Real : goal.returns-in-Real
-unfolding meaning_of allowed
-returns-in-Real c = rw c.in-Real.is
-
-pub returns-in-Nan : goal.returns-in-Nan
-unfolding meaning_of allowed
-returns-in-Nan c = rw c.in-Nan.is
-
 pub returns-in-String : goal.returns-in-String
 unfolding meaning_of allowed
 returns-in-String c = rw c.in-String.is (ap not c.is_utf8.ensures)
 
-pub returns-in-Uid : goal.returns-in-Uid
-unfolding meaning_of allowed
-returns-in-Uid c = rw c.in-Uid.is
+pub returns-in_default : goal.returns-in_default
+returns-in_default c = other c.args.event c.args.bytes.now c.in_default.not-Date c.in_default.not-String

@@ -2,10 +2,10 @@
 use Rattle.tape.specs.End.{after_bytes}
 use Rattle.tape.proofs.end.after_bytes.Goals as goal
 
-pub returns-in_default : goal.returns-in_default
+pub returns-in_err-n : goal.returns-in_err-n
 unfolding after_bytes
-returns-in_default c = rw c.in_default.is
+returns-in_err-n c = rw c.in_err-n.was c.from_residual.ensures
 
 pub returns : goal.returns
 unfolding after_bytes
-returns c = rw c.in-Of.is c.after_size.ensures
+returns c = rw c.in_ok-n.was c.after_size.ensures

@@ -1,72 +1,65 @@
--- `lacks_event`, event by event.
-use mathlib.Core.Path.{ap, ◌∙◌}
+-- `lacks_event`, by how many bytes the event has.
+use Rattle.std.specs.Prelude.{Option}
+use mathlib.Core.Bool.{Bool}
+use mathlib.Core.List.{List}
+use mathlib.Core.Logic.{◌⊎◌, inl, inr}
+use mathlib.Core.Path.{◌≡◌, ap, ◌∙◌}
 use Prim.Native.Nat.{ℕ, ◌+◌}
 use lib.Dec.{ltb}
+use lib.Ieee.{Float}
 use lib.ListN.{length}
 use Rattle.event.specs.Meaning.{meaning_of}
+use Rattle.event.specs.declared.Event.{Event}
+use Rattle.event.specs.declared.Event.TheVariants.{StartArray, StartDictionary, EndCollection, Boolean, Data, Date, Real, Nan, String}
 use Rattle.tape.specs.Code.{bytes_for}
+use Rattle.tape.specs.Kinds.{start_bytes}
 use Rattle.tape.specs.KindsLaws.{start_array}
+use Rattle.tape.specs.Seven.{seven}
 use Rattle.tape.specs.SizeLaws.{boolean_size, eight_size, dictionary_size, number_size, bytes_size}
 use Rattle.tape.proofs.room.lacks_event.Goals as goal
 
-pub returns-in-StartArray : goal.returns-in-StartArray
-unfolding meaning_of
-returns-in-StartArray c =
-    let a = c.args in
-    rw c.in-StartArray.is (c.lacks_start.ensures ∙ ap (λ (k : ℕ). ltb a.end (a.at + k)) (ap length (start_array _)))
+module _ (e : Event) (s : List ℕ) where
+  start : (n : Option ℕ) → (e ≡ StartArray n) ⊎ (e ≡ StartDictionary n) → length (start_bytes 0x0A n) ≡ length (bytes_for (meaning_of e s))
+  unfolding meaning_of
+  start n (inl q) = rw q (ap length (start_array n))
+  start n (inr q) = rw q (dictionary_size n)
 
-pub returns-in-StartDictionary : goal.returns-in-StartDictionary
-unfolding meaning_of
-returns-in-StartDictionary c =
-    let a = c.args in
-    rw c.in-StartDictionary.is (c.lacks_start-in-StartDictionary.ensures ∙ ap (λ (k : ℕ). ltb a.end (a.at + k)) (dictionary_size _))
+  kind : (e ≡ EndCollection) ⊎ ((b : Bool) × (e ≡ Boolean b)) → 1 ≡ length (bytes_for (meaning_of e s))
+  unfolding meaning_of bytes_for
+  kind (inl q) = rw q
+  kind (inr (b, q)) = rw q (boolean_size b)
+
+  eight : ((b : ℕ) × (e ≡ Date b)) ⊎ (((x : Float) × (e ≡ Real x)) ⊎ ((b : ℕ) × (e ≡ Nan b))) → 9 ≡ length (bytes_for (meaning_of e s))
+  unfolding meaning_of bytes_for
+  eight (inl (b, q)) = rw q (eight_size 0x06 b)
+  eight (inr (inl (x, q))) = rw q (eight_size 0x05 _)
+  eight (inr (inr (b, q))) = rw q (eight_size 0x05 b)
+
+  held : (e ≡ Data) ⊎ (e ≡ String) → 1 + length (seven (length s)) + length s ≡ length (bytes_for (meaning_of e s))
+  unfolding meaning_of bytes_for
+  held (inl q) = rw q (bytes_size 0x08 s)
+  held (inr q) = rw q (bytes_size 0x09 s)
+
+-- a test for room goes by the number of bytes
+room : (end at : ℕ) {r : Bool} {m n : ℕ} → r ≡ ltb end (at + m) → m ≡ n → r ≡ ltb end (at + n)
+room end at e q = e ∙ ap (λ (k : ℕ). ltb end (at + k)) q
+
+pub returns-in-StartArray : goal.returns-in-StartArray
+returns-in-StartArray c = let a = c.args in room a.end a.at c.lacks_start.ensures (start a.event a.bytes.now c.in-StartArray.length c.in-StartArray.is)
 
 pub returns-in-EndCollection : goal.returns-in-EndCollection
-unfolding meaning_of bytes_for
-returns-in-EndCollection c = rw c.in-EndCollection.is c.lacks_room.ensures
-
-pub returns-in-Boolean : goal.returns-in-Boolean
-unfolding meaning_of
-returns-in-Boolean c =
-    let a = c.args in
-    rw c.in-Boolean.is (c.lacks_room-in-Boolean.ensures ∙ ap (λ (k : ℕ). ltb a.end (a.at + k)) (boolean_size _))
+returns-in-EndCollection c = let a = c.args in room a.end a.at c.lacks_room.ensures (kind a.event a.bytes.now c.in-EndCollection.is)
 
 pub returns-in-Data : goal.returns-in-Data
-unfolding meaning_of bytes_for
-returns-in-Data c =
-    let a = c.args in
-    rw c.in-Data.is (c.lacks_bytes.ensures ∙ ap (λ (k : ℕ). ltb a.end (a.at + k)) (bytes_size 0x08 a.bytes.now))
+returns-in-Data c = let a = c.args in room a.end a.at c.lacks_bytes.ensures (held a.event a.bytes.now c.in-Data.is)
 
 pub returns-in-Date : goal.returns-in-Date
-unfolding meaning_of bytes_for
-returns-in-Date c =
-    let a = c.args in
-    rw c.in-Date.is (c.lacks_room-in-Date.ensures ∙ ap (λ (k : ℕ). ltb a.end (a.at + k)) (eight_size 0x06 _))
+returns-in-Date c = let a = c.args in room a.end a.at c.lacks_room-in-Date.ensures (eight a.event a.bytes.now c.in-Date.is)
 
 pub returns-in-Integer : goal.returns-in-Integer
 unfolding meaning_of
 returns-in-Integer c = rw c.in-Integer.is c.lacks_integer.ensures
 
-pub returns-in-Real : goal.returns-in-Real
-unfolding meaning_of bytes_for
-returns-in-Real c =
-    let a = c.args in
-    rw c.in-Real.is (c.lacks_room-in-Real.ensures ∙ ap (λ (k : ℕ). ltb a.end (a.at + k)) (eight_size 0x05 _))
-
-pub returns-in-Nan : goal.returns-in-Nan
-unfolding meaning_of bytes_for
-returns-in-Nan c =
-    let a = c.args in
-    rw c.in-Nan.is (c.lacks_room-in-Nan.ensures ∙ ap (λ (k : ℕ). ltb a.end (a.at + k)) (eight_size 0x05 _))
-
-pub returns-in-String : goal.returns-in-String
-unfolding meaning_of bytes_for
-returns-in-String c =
-    let a = c.args in
-    rw c.in-String.is (c.lacks_bytes-in-String.ensures ∙ ap (λ (k : ℕ). ltb a.end (a.at + k)) (bytes_size 0x09 a.bytes.now))
-
 pub returns-in-Uid : goal.returns-in-Uid
 unfolding meaning_of bytes_for
-returns-in-Uid c =
-    let a = c.args in
-    rw c.in-Uid.is (c.lacks_number.ensures ∙ ap (λ (k : ℕ). ltb a.end (a.at + k)) (number_size 0x07 _))
+returns-in-Uid c = let a = c.args in rw c.in-Uid.is (room a.end a.at c.lacks_number.ensures (number_size 0x07 _))

@@ -6,12 +6,12 @@ use Rattle.tape.specs.Kinds.{start_bytes}
 use Rattle.tape.specs.SizeLaws.{number_size}
 use Rattle.tape.proofs.room.lacks_start.Goals as goal
 
-pub returns-in-NotGiven : goal.returns-in-NotGiven
+pub returns-in-None : goal.returns-in-None
 unfolding start_bytes
-returns-in-NotGiven c = rw c.in-NotGiven.is c.lacks_room.ensures
+returns-in-None c = rw c.in-None.is c.lacks_room.ensures
 
-pub returns-in-Given : goal.returns-in-Given
+pub returns-in-Some : goal.returns-in-Some
 unfolding start_bytes
-returns-in-Given c =
+returns-in-Some c =
     let a = c.args in
-    rw c.in-Given.is (c.lacks_number.ensures ∙ ap (λ (k : ℕ). ltb a.end (a.at + k)) (number_size 0x0B _))
+    rw c.in-Some.is (c.lacks_number.ensures ∙ ap (λ (k : ℕ). ltb a.end (a.at + k)) (number_size 0x0B _))

@@ -1,4 +1,5 @@
 -- `negative`: -1 less the number, where there is such an integer.
+use Rattle.std.specs.Prelude.{Some}
 use mathlib.Core.Path.{◌≡◌, sym, ◌∙◌, ap}
 use borrow.Author.Rules.{rules}
 use lib.IntN.{ℤ}
@@ -9,19 +10,18 @@ use Rattle.event.specs.declared.Event.TheVariants.{Integer}
 use Rattle.event.specs.declared.Integer.TheVariants.{Signed}
 use Rattle.tape.specs.Item.{plain, negative}
 use Rattle.tape.specs.KindsLaws.{negative_of_law, negative_none}
-use Rattle.tape.specs.declared.value.Value.TheVariants.{Of}
 use Rattle.tape.proofs.step.negative.Goals as goal
 
-pub returns-in_default : goal.returns-in_default
+pub returns-in_err-k : goal.returns-in_err-k
 unfolding negative
-returns-in_default c = rw c.in_default.is
+returns-in_err-k c = rw c.in_err-k.was c.from_residual.ensures
 
-pub returns-in_default-negative_of : goal.returns-in_default-negative_of
-returns-in_default-negative_of c = rw c.in-Of.is (sym (negative_none _ _ (sym c.negative_of.ensures ∙ c.in_default-negative_of.is)))
+pub returns-in_err-z : goal.returns-in_err-z
+returns-in_err-z c = rw c.in_ok-k.was (c.from_residual-in_err-z.ensures ∙ sym (negative_none _ _ (sym c.negative_of.ensures ∙ c.in_err-z.was)))
 
 pub returns : goal.returns
 returns c =
-    let f : SFits w64 c.in-Of-negative_of.z = search rules in
-    let e : negative (Of c.in-Of.k c.in-Of.next) ≡ plain (Integer (Signed c.in-Of-negative_of.z)) c.in-Of.next =
-    negative_of_law c.in-Of.k c.in-Of.next c.in-Of-negative_of.z (sym c.negative_of.ensures ∙ c.in-Of-negative_of.is) in
-    rw c.in-Of.is (c.no_bytes.ensures ∙ ap (λ (y : ℤ). plain (Integer (Signed y)) c.in-Of.next) (to_z-of_z f) ∙ sym e)
+    let f : SFits w64 c.in_ok-z.z = search rules in
+    let e : negative (Some (c.in_ok-k.k, c.in_ok-k.next)) ≡ plain (Integer (Signed c.in_ok-z.z)) c.in_ok-k.next =
+    negative_of_law c.in_ok-k.k c.in_ok-k.next c.in_ok-z.z (sym c.negative_of.ensures ∙ c.in_ok-z.was) in
+    rw c.in_ok-k.was (c.no_bytes.ensures ∙ ap (λ (y : ℤ). plain (Integer (Signed y)) c.in_ok-k.next) (to_z-of_z f) ∙ sym e)

@@ -2,10 +2,10 @@
 use Rattle.tape.specs.Item.{numbered}
 use Rattle.tape.proofs.step.numbered.Goals as goal
 
-pub returns-in_default : goal.returns-in_default
+pub returns-in_err-n : goal.returns-in_err-n
 unfolding numbered
-returns-in_default c = rw c.in_default.is
+returns-in_err-n c = rw c.in_err-n.was c.from_residual.ensures
 
 pub returns : goal.returns
 unfolding numbered
-returns c = rw (c.in-Of.is, ← c.event_of.ensures) c.no_bytes.ensures
+returns c = rw (c.in_ok-n.was, ← c.event_of.ensures) c.no_bytes.ensures

@@ -2,10 +2,10 @@
 use Rattle.tape.specs.Kinds.{start_bytes}
 use Rattle.tape.proofs.unchecked.put_start.Goals as goal
 
-pub returns-in-NotGiven : goal.returns-in-NotGiven
+pub returns-in-None : goal.returns-in-None
 unfolding start_bytes
-returns-in-NotGiven c = rw c.in-NotGiven.is c.put_kind.ensures
+returns-in-None c = rw c.in-None.is c.put_kind.ensures
 
-pub returns-in-Given : goal.returns-in-Given
+pub returns-in-Some : goal.returns-in-Some
 unfolding start_bytes
-returns-in-Given c = rw c.in-Given.is c.put_number.ensures
+returns-in-Some c = rw c.in-Some.is c.put_number.ensures

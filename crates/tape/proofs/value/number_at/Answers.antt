@@ -14,31 +14,17 @@ loop-i-init c =
     let a = c.args in
     (no_groups, above_nothing a.at (drop a.at a.tape.now) (bytes_drop a.at a.tape.now (bytes_of_law a.tape.now (λ (i : ℕ). omega (arith, c.type_inv.tape i)))))
 
-pub bounds-tape-i : goal.bounds-tape-i
-bounds-tape-i c = omega arith
-
-pub overflow_cast-group : goal.overflow_cast-group
-overflow_cast-group c = omega (arith, c.type_inv.tape c.loop-i.i)
-
-pub overflow_add-i : goal.overflow_add-i
-overflow_add-i c = omega arith
-
-pub last_group-requires : goal.last_group-requires
-last_group-requires c = (c.loop-i.invariant.0, c.if-group-lt128.true)
-
 pub returns-then-group-lt128 : goal.returns-then-group-lt128
 unfolding number_at
 returns-then-group-lt128 c =
     let l = c.loop-i in
-    let t = c.args.tape.now in
-    c.last_group.ensures ∙ sym (l.invariant.1 ∙ turn_last l.value l.unit l.invariant.0 t l.i c.loop-i-test.true c.if-group-lt128.true)
+    c.last_group.ensures ∙ sym (l.invariant.1 ∙ turn_last l.value l.unit l.invariant.0 c.args.tape.now l.i (omega arith) c.if-group-lt128.true)
 
 pub returns-then-unit : goal.returns-then-unit
 unfolding number_at
 returns-then-unit c =
     let l = c.loop-i in
-    let t = c.args.tape.now in
-    sym (l.invariant.1 ∙ turn_tenth l.value l.unit l.invariant.0 t l.i c.loop-i-test.true c.if-group-lt128.false c.if-unit.true)
+    sym (l.invariant.1 ∙ turn_tenth l.value l.unit l.invariant.0 c.args.tape.now l.i (omega arith) c.if-group-lt128.false c.if-unit.true)
 
 -- the group at hand, and what it adds
 byte : (c : goal.Else-unit) → get_or c.args.tape.now c.loop-i.i 0 < 256
@@ -53,8 +39,7 @@ grows c =
     omega (arith, more_lt l.value l.unit l.invariant.0 (b - 128) (omega (arith, byte c)), unit_small l.value l.unit l.invariant.0 c.if-unit.false)
 
 pub overflow_mul-value : goal.overflow_mul-value
-overflow_mul-value c =
-    omega (arith, grows c)
+overflow_mul-value c = omega (arith, grows c)
 
 pub overflow_add-value : goal.overflow_add-value
 overflow_add-value c = omega (arith, grows c)
@@ -64,19 +49,16 @@ overflow_mul-unit c =
     let l = c.loop-i in
     omega (arith, unit_small l.value l.unit l.invariant.0 c.if-unit.false)
 
-pub loop-i-smaller : goal.loop-i-smaller
-loop-i-smaller c = omega arith
-
 pub loop-i-preserved : goal.loop-i-preserved
 loop-i-preserved c =
     let l = c.loop-i in
     let t = c.args.tape.now in (
       more_groups l.value l.unit l.invariant.0 (get_or t l.i 0 - 128) (omega (arith, byte c)) c.if-unit.false,
-      l.invariant.1 ∙ turn_more l.value l.unit l.invariant.0 t l.i c.loop-i-test.true c.if-group-lt128.false (byte c),
+      l.invariant.1 ∙ turn_more l.value l.unit l.invariant.0 t l.i (omega arith) c.if-group-lt128.false (byte c),
     )
 
 pub returns : goal.returns
 unfolding number_at
 returns c =
     let l = c.loop-i in
-    sym (l.invariant.1 ∙ turn_none l.value l.unit l.invariant.0 c.args.tape.now l.i c.loop-i-test.false)
+    sym (l.invariant.1 ∙ turn_none l.value l.unit l.invariant.0 c.args.tape.now l.i (omega arith))

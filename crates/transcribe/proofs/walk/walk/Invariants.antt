@@ -14,17 +14,13 @@ use Rattle.transcribe.proofs.Walking.{Stands, left_of}
 use Rattle.transcribe.proofs.walk.walk.Given as goal
 
 abbrev pub invariant-loop-left : goal.invariant-loop-left
-invariant-loop-left l =
-    (length l.scratch ≡ length l.initial.scratch) ×
-    (length l.tape ≡ length l.initial.tape) ×
-    (l.depth ≤ max_open) ×
-    (l.depth ≡ 0 → l.frames ≡ replicate max_open no_frame) ×
-    (left_of l.file l.layout l.root l.left l.scratch l.tape l.held l.place l.depth l.frames ≡ onward l.budget l.file l.initial.scratch l.initial.tape 0 (arrive (laid_out l.file l.layout) l.root (look_of l.file l.layout l.root))) ×
-    (length l.frames ≡ max_open) ×
-    Stands l.file l.layout l.standing l.depth l.frames ×
-    (length l.numbers ≡ max_open) ×
-    Listed l.depth l.frames l.numbers ×
-    Below l.above (take l.depth l.numbers)
-
-abbrev pub decreases-loop-left : goal.decreases-loop-left
-decreases-loop-left l = l.left
+invariant-loop-left l = record {
+  fits : l.depth ≤ max_open;
+  first : l.depth ≡ 0 → l.frames ≡ replicate max_open no_frame;
+  is : left_of l.file l.layout l.root l.left l.scratch l.tape l.held l.place l.depth l.frames ≡ onward l.budget l.file l.initial.scratch l.initial.tape l.initial.held (arrive (laid_out l.file l.layout) l.root (look_of l.file l.layout l.root));
+  long : length l.frames ≡ max_open;
+  stands : Stands l.file l.layout l.standing l.depth l.frames;
+  many : length l.numbers ≡ max_open;
+  listed : Listed l.depth l.frames l.numbers;
+  below : Below l.above (take l.depth l.numbers);
+}

@@ -1,82 +1,42 @@
 -- `past_plain`: each way comes to a place in the run.
-use mathlib.Core.List.{List}
-use mathlib.Core.Path.{◌≡◌, sym, ◌∙◌}
-use Prim.Native.Nat.{ℕ, ◌+◌, ◌-◌, ◌≤◌}
-use native.Mathlib.Omega.{arith}
-use lib.Count.{trailing_le}
-use lib.ListN.{length, drop, length-drop}
-use Rattle.utf.specs.Bounds.{Below, below_all}
-use Rattle.utf.specs.Plain.{InRun}
-use Rattle.utf.specs.PlainLaws.{run_on, run_far, run_inside, run_plain, run_end, eight_run, eight_plain}
+use Rattle.std.proofs.Common.{◌≡◌, ◌≤◌, ◌<◌, ◌-◌, ◌+◌, ℕ, List, arith, length, take, drop, get_or}
+use Rattle.std.proofs.Math.Seq.{take_all}
+use Rattle.std.specs.Int.Bits.{bit_and}
+use Rattle.utf.specs.Bounds.{below_all}
+use Rattle.utf.specs.Plain.{ascii_run, BehindRun, little_of, tops_of}
+use Rattle.utf.specs.PlainLaws.{run_on, run_end, eight_run, eight_plain}
+use Rattle.utf.proofs.Runs.{behind_far, behind_place}
 use Rattle.utf.proofs.plain.past_plain.Goals as goal
-use Rattle.utf.proofs.plain.past_plain.Lts as lts
-use Rattle.utf.proofs.plain.past_plain.Reads as reads
-use Rattle.utf.proofs.plain.past_plain.Tie as tie
-
-pub returns-then-s-from-lt8 : goal.returns-then-s-from-lt8
-returns-then-s-from-lt8 c =
-    let a = c.args in
-    let one = run_on a.s.now a.from (a.from + 1) (omega arith, omega (arith, c.requires.1)) in
-    (omega (arith, c.past_bytes.ensures), (omega (arith, c.past_bytes.ensures), omega (arith, c.past_bytes.ensures, one)))
-
--- the lent slice is bytes
-bytes : (c : lts.After-shared_slice_known tie.the-claims reads.Pre reads.Post) → Below 256 c.args.s.now
-bytes c = below_all 256 c.args.s.now (λ i. omega (arith, c.shared_slice_known-1.given i))
-
-pub overflow_cast-result : goal.overflow_cast-result
-overflow_cast-result c = omega (arith, trailing_le 64 c.tops_at-tops.result)
-
-pub overflow_add-result : goal.overflow_add-result
-overflow_add-result c = omega (arith, trailing_le 64 c.tops_at-tops.result)
 
 pub returns-then-tops-gt0 : goal.returns-then-tops-gt0
 returns-then-tops-gt0 c =
-    let a = c.args in
-    let e = rw (← c.tops_at-tops.ensures) at (eight_run a.s.now a.from (bytes c.before.before.before.before) (omega arith) c.requires.1) in
-    (omega (arith, e.0), (omega arith, omega (arith, e.1)))
+    let s = c.args.s.now in
+    let w = c.in-Some.ensures.cases in
+    let size : length c.in-Some.behind.now + 8 ≡ length s = w.2 in
+    rw (c.top_bits-tops.ensures, w.0) (eight_run s 0 (below_all 256 s (λ i. omega (arith, c.type_inv.s i))) (omega arith) c.requires)
 
--- the first eight bytes are in the run, and so are the steps behind them
-first : (c : lts.Else2 tie.the-claims reads.Pre reads.Post) → let a = c.args in InRun a.s.now a.from (a.from + 8)
-first c =
-    let a = c.args in
-    let s : List ℕ = a.s.now in
-    let plain = eight_plain s a.from (bytes c.before.before.before) (omega arith) (sym c.tops_at-tops.ensures ∙ (let z : c.tops_at-tops.result ≡ 0 = omega arith in z)) in
-    (omega arith, omega (arith, run_plain 8 (drop a.from s) (rw length-drop (omega arith)) plain))
+-- where what is left begins
+placed : (s eight behind middle rest : List ℕ) (tops : ℕ) → ((i : ℕ) → get_or s i 0 < 256) → (eight ≡ take 8 s) × (behind ≡ drop 8 s) × (length behind + 8 ≡ length s) →
+    tops ≡ bit_and (little_of eight) (tops_of 8) → tops ≤ 0 → BehindRun behind middle → BehindRun middle rest → let i = length s - length rest in (8 ≤ i) × (i ≤ ascii_run s)
+placed s eight behind middle rest tops b w e z p q =
+    let none : tops ≡ 0 = omega arith in
+    let size : length behind + 8 ≡ length s = w.2 in
+    behind_place s rest (below_all 256 s b) (omega arith) (rw (e, w.0) at none) (rw w.1 at (behind_far behind middle rest p q))
 
-steps : (c : lts.After-past_steps2 tie.the-claims reads.Pre reads.Post) → let a = c.args in InRun a.s.now (a.from + 8) c.past_steps-i.result
-steps c =
-    let a = c.args in
-    run_far a.s.now (a.from + 8) _ c.past_steps.ensures _ c.past_steps-i.ensures
-
-pub past_steps-i-requires : goal.past_steps-i-requires
-past_steps-i-requires c =
-    let a = c.args in
-    (run_inside a.s.now (a.from + 8) _ (omega arith) c.past_steps.ensures, omega arith)
-
-pub overflow_sub-s-2 : goal.overflow_sub-s-2
-overflow_sub-s-2 c =
-    let a = c.args in
-    run_inside a.s.now (a.from + 8) _ (omega arith) (steps c.before)
-
-pub returns-then-s-i-ge8 : goal.returns-then-s-i-ge8
-returns-then-s-i-ge8 c =
-    let a = c.args in
-    let far = run_far a.s.now a.from (a.from + 8) (first c.before.before.before.before) _ (steps c.before.before) in
-    (omega (arith, (steps c.before.before).0), far)
-
-pub returns-then-tops_at-eq0 : goal.returns-then-tops_at-eq0
-returns-then-tops_at-eq0 c =
-    let a = c.args in
-    let s : List ℕ = a.s.now in
-    let i = c.past_steps-i.result in
-    let far = run_far s a.from (a.from + 8) (first c.before.before.before.before.before.before) _ (steps c.before.before.before.before) in
-    let inside : i ≤ length s = run_inside s (a.from + 8) _ (omega arith) (steps c.before.before.before.before) in
-    let plain = eight_plain s (length s - 8) (bytes c.before.before.before.before.before.before.before.before.before) (omega arith) (sym c.tops_at.ensures ∙ c.if-tops_at-eq0.true) in
-    let end = run_end s (length s - 8) 8 i (omega arith) plain (omega arith) inside in
-    (omega arith, (omega arith, omega (arith, end, run_on s a.from i far)))
+pub returns-then-top_bits-eq0 : goal.returns-then-top_bits-eq0
+returns-then-top_bits-eq0 c =
+    let s = c.args.s.now in
+    let k = length s - 8 in
+    let i = length s - length c.past_steps-rest.result.now in
+    let p = placed s _ _ _ _ _ (λ i. omega (arith, c.type_inv.s i)) c.in-Some.ensures.cases c.top_bits-tops.ensures c.if-tops-gt0.false c.past_steps.ensures c.past_steps-rest.ensures in
+    let v = c.in-Some-last_chunk.ensures.cases in
+    let all : take 8 (drop k s) ≡ drop k s = take_all 8 (drop k s) (omega (arith, v.1.long)) in
+    let none = rw (c.top_bits.ensures, v.1.same) at c.if-top_bits-eq0.true in
+    let plain = eight_plain s k (below_all 256 s (λ i. omega (arith, c.type_inv.s i))) (omega (arith, v.0)) (rw all none) in
+    let end = run_end s k 8 i (omega (arith, v.0)) plain (omega arith) (omega arith) in
+    (omega (arith, v.0), omega (arith, end, run_on s 0 i (omega arith, omega (arith, p.1))))
 
 pub returns : goal.returns
 returns c =
-    let a = c.args in
-    let far = run_far a.s.now a.from (a.from + 8) (first c.before.before.before.before.before.before) _ (steps c.before.before.before.before) in
-    (omega (arith, (steps c.before.before.before.before).0), far)
+    let p = placed c.args.s.now _ _ _ _ _ (λ i. omega (arith, c.type_inv.s i)) c.in-Some.ensures.cases c.top_bits-tops.ensures c.if-tops-gt0.false c.past_steps.ensures c.past_steps-rest.ensures in
+    (omega (arith, p.0), omega (arith, p.1))

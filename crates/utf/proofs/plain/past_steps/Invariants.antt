@@ -1,11 +1,10 @@
--- `past_steps` comes to places in the run.
-use Prim.Native.Nat.{◌-◌, ◌≤◌}
-use lib.ListN.{length}
-use Rattle.utf.specs.Plain.{InRun}
+-- `past_steps`: what is left stands behind a part of the run.
+use Rattle.std.proofs.Common.{length}
+use Rattle.utf.specs.Plain.{BehindRun}
 use Rattle.utf.proofs.plain.past_steps.Given as goal
 
-abbrev pub invariant-loop-i : goal.invariant-loop-i
-invariant-loop-i l = (l.i ≤ length l.s) × InRun l.s l.from l.i
+abbrev pub invariant-loop-part : goal.invariant-loop-part
+invariant-loop-part l = BehindRun l.s l.rest
 
-abbrev pub decreases-loop-i : goal.decreases-loop-i
-decreases-loop-i l = length l.s - l.i
+abbrev pub decreases-loop-part : goal.decreases-loop-part
+decreases-loop-part l = length l.rest

@@ -1,11 +1,10 @@
 -- `put_unit` stores a unit's two bytes, one after the other.
-use native.Mathlib.Numerals.{add-one}
-use native.Mathlib.Omega.{arith}
-use lib.ListN.{length-set}
+use Rattle.std.proofs.Common.{◌≡◌, ◌/◌, ◌%◌, add-one, arith}
+use Rattle.utf.specs.Unicode.{unit_bytes}
 use Rattle.utf.proofs.to_utf16.put_unit.Goals as goal
 
-pub bounds-out-at-2 : goal.bounds-out-at-2
-bounds-out-at-2 c = simp length-set (omega arith)
-
 pub returns : goal.returns
-returns c = rw add-one
+unfolding unit_bytes
+returns c =
+    let high : c.args.unit / 256 % 256 ≡ c.args.unit / 256 = omega arith in
+    rw (c.to_be_bytes.ensures, high, add-one)

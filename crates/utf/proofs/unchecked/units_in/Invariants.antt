@@ -1,12 +1,10 @@
 -- `units_in`: what is counted and what is left make the whole.
-use mathlib.Core.Path.{◌≡◌}
-use Prim.Native.Nat.{◌+◌, ◌-◌, ◌≤◌}
-use lib.ListN.{length, drop}
+use Rattle.std.proofs.Common.{◌≡◌, ◌+◌, length}
 use Rattle.utf.specs.ToUtf16.{units_in}
 use Rattle.utf.proofs.unchecked.units_in.Given as goal
 
-abbrev pub invariant-loop-i : goal.invariant-loop-i
-invariant-loop-i l = (l.i ≤ length l.s) × (l.count + units_in (drop l.i l.s) ≡ units_in l.s)
+abbrev pub invariant-loop-part : goal.invariant-loop-part
+invariant-loop-part l = l.count + units_in l.rest ≡ units_in l.s
 
-abbrev pub decreases-loop-i : goal.decreases-loop-i
-decreases-loop-i l = length l.s - l.i
+abbrev pub decreases-loop-part : goal.decreases-loop-part
+decreases-loop-part l = length l.rest

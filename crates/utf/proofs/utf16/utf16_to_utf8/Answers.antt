@@ -11,17 +11,17 @@ returns-in_default c =
 
 pub returns-then-out-bytes : goal.returns-then-out-bytes
 returns-then-out-bytes c =
-    let m = measured _ _ (sym c.utf8_length.ensures ∙ c.in-Bytes.is) in
+    let m = measured _ _ (sym c.utf8_length.ensures ∙ c.in-Some.is) in
     let a = no_room _ _ _ _ m.0 m.1 c.if-out-bytes.true in
     (record { value = a.answer; out_after = a.memory })
 
 pub write_utf8-requires : goal.write_utf8-requires
 write_utf8-requires c =
-    let m = measured _ _ (sym c.utf8_length.ensures ∙ c.in-Bytes.is) in
+    let m = measured _ _ (sym c.utf8_length.ensures ∙ c.in-Some.is) in
     (m.0, rw m.1 c.if-out-bytes.false)
 
 pub returns : goal.returns
 returns c =
-    let m = measured _ _ (sym c.utf8_length.ensures ∙ c.in-Bytes.is) in
+    let m = measured _ _ (sym c.utf8_length.ensures ∙ c.in-Some.is) in
     let a = written _ _ _ _ m.0 m.1 c.if-out-bytes.false in
     (record { value = a.answer; out_after = c.write_utf8.ensures ∙ a.memory })

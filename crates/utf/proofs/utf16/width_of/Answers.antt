@@ -1,17 +1,16 @@
 -- `width_of` is the number of bytes by the four ranges.
-use mathlib.Core.Path.{sym, ap}
-use lib.ListN.{length}
+use Rattle.std.proofs.Common.{sym, ap, arith, length}
 use Rattle.utf.specs.ScalarLaws.{utf8_one, utf8_two, utf8_three, utf8_four}
 use Rattle.utf.proofs.utf16.width_of.Goals as goal
 
-pub returns-then-v-lt128 : goal.returns-then-v-lt128
-returns-then-v-lt128 c = sym (ap length (utf8_one c.args.v c.if-v-lt128.true))
+pub returns-in-0-to-127 : goal.returns-in-0-to-127
+returns-in-0-to-127 c = sym (ap length (utf8_one c.args.v (omega arith)))
 
-pub returns-then-v-lt2048 : goal.returns-then-v-lt2048
-returns-then-v-lt2048 c = sym (ap length (utf8_two c.args.v c.if-v-lt128.false c.if-v-lt2048.true))
+pub returns-in-128-to-2047 : goal.returns-in-128-to-2047
+returns-in-128-to-2047 c = sym (ap length (utf8_two c.args.v (omega arith) (omega arith)))
 
-pub returns-then-v-lt65536 : goal.returns-then-v-lt65536
-returns-then-v-lt65536 c = sym (ap length (utf8_three c.args.v c.if-v-lt2048.false c.if-v-lt65536.true))
+pub returns-in-2048-to-65535 : goal.returns-in-2048-to-65535
+returns-in-2048-to-65535 c = sym (ap length (utf8_three c.args.v (omega arith) (omega arith)))
 
-pub returns : goal.returns
-returns c = sym (ap length (utf8_four c.args.v c.if-v-lt65536.false))
+pub returns-in_default : goal.returns-in_default
+returns-in_default c = sym (ap length (utf8_four c.args.v (omega arith)))

@@ -1,5 +1,5 @@
 -- `follows`: the byte at a place, where there is one, is tested against its range.
-use lib.ListN.{drop_of_length-le}
+use Rattle.std.proofs.Common.{drop_of_length-le}
 use borrow.Author.Tests.{lt-leb, le-leb}
 use Rattle.utf.specs.Left.{left_at}
 use Rattle.utf.specs.Unicode.{within}
@@ -10,14 +10,10 @@ pub returns-then-s-i : goal.returns-then-s-i
 unfolding next_in
 returns-then-s-i c = rw (drop_of_length-le c.args.s.now c.if-s-i.true)
 
-pub returns-then-s-i-2 : goal.returns-then-s-i-2
+pub returns-then-low-s : goal.returns-then-low-s
 unfolding next_in within
-returns-then-s-i-2 c =
-    let a = c.args in
-    rw (left_at a.s.now a.i c.if-s-i.false, lt-leb _ _ c.if-s-i-2.true)
+returns-then-low-s c = let a = c.args in rw (left_at a.s.now a.i c.if-s-i.false, le-leb _ _ c.if-low-s.true)
 
-pub returns : goal.returns
+pub returns-else-low-s : goal.returns-else-low-s
 unfolding next_in within
-returns c =
-    let a = c.args in
-    rw (left_at a.s.now a.i c.if-s-i.false, le-leb _ _ c.if-s-i-2.false)
+returns-else-low-s c = let a = c.args in rw (left_at a.s.now a.i c.if-s-i.false, lt-leb _ _ c.if-low-s.false)

@@ -1,46 +1,28 @@
--- `long_width`: each way says which bytes of the row follow.
+-- `long_width`: the bytes of the first byte's row follow it, or they don't.
+use mathlib.Core.Bool.{◌&&◌, and-true, and_assoc}
 use mathlib.Core.List.{[], ◌∷◌}
-use mathlib.Core.Path.{◌≡◌, sym, ◌∙◌}
-use Prim.Native.Nat.{◌+◌}
-use native.Mathlib.Omega.{arith}
-use lib.ListN.{get_or, drop}
+use Rattle.std.proofs.Common.{◌≡◌, ◌∙◌, arith, get_or, drop}
 use Rattle.utf.specs.Unicode.{◌to◌}
-use Rattle.utf.specs.Utf8Walk.{next_in, low_after, high_after, later, after_four, after_above, no_first, sequence, no_sequence}
+use Rattle.utf.specs.Utf8Walk.{low_after, high_after, later, next_in, follow, after_four, after_above, first_at, front}
+use Rattle.utf.proofs.utf8.long_width.Goals.{then-follows, else-follows, then-follows-2, else-follows-2}
 use Rattle.utf.proofs.utf8.long_width.Goals as goal
-use Rattle.utf.proofs.utf8.long_width.Lts as lts
-use Rattle.utf.proofs.utf8.long_width.Reads as reads
-use Rattle.utf.proofs.utf8.long_width.Tie as tie
 
-pub returns-then-b-gt244 : goal.returns-then-b-gt244
-returns-then-b-gt244 c =
-    let a = c.args in
-    no_first a.s.now a.i c.requires.0 (after_above _ _ (omega arith) (omega (arith, c.type_inv.s a.i)))
+pub returns-then-first-gt244 : goal.returns-then-first-gt244
+returns-then-first-gt244 c = first_at c.args.s.now 0 c.requires.0 ∙ after_above _ _ (omega arith) (omega (arith, c.type_inv.s 0))
 
--- what the test of the second byte says
-second : (c : lts.After-follows tie.the-claims reads.Pre reads.Post) → let a = c.args in c.follows.result ≡ next_in (low_after (get_or a.s.now a.i 0) to high_after (get_or a.s.now a.i 0)) (drop (a.i + 1) a.s.now)
-second c = rw (c.low_after.ensures, c.high_after.ensures) at c.follows.ensures
-
-pub returns-then-follows-3 : goal.returns-then-follows-3
-returns-then-follows-3 c =
-    let a = c.args in
-    let j : a.i + 2 ≡ a.i + 1 + 1 = omega arith in
-    let k : a.i + 3 ≡ a.i + 1 + 1 + 1 = omega arith in
-    sequence a.s.now a.i c.requires.0 _ (after_four _ _ c.requires.1 (omega arith))
-    (sym (second c.before.before.before.before.before.before) ∙ c.if-follows.true, (rw j at (sym c.follows-then-follows.ensures ∙ c.if-follows-2.true), (rw k at (sym c.follows-then-follows-2.ensures ∙ c.if-follows-3.true), tt)))
-
-pub returns-else-follows-3 : goal.returns-else-follows-3
-returns-else-follows-3 c =
-    let a = c.args in
-    let j : a.i + 2 ≡ a.i + 1 + 1 = omega arith in
-    no_sequence a.s.now a.i c.requires.0 (_ ∷ later ∷ []) later [] (a.i + 3) (omega arith) (after_four _ _ c.requires.1 (omega arith))
-    (sym (second c.before.before.before.before.before.before) ∙ c.if-follows.true, (rw j at (sym c.follows-then-follows.ensures ∙ c.if-follows-2.true), tt)) (sym c.follows-then-follows-2.ensures ∙ c.if-follows-3.false)
-
-pub returns-else-follows-2 : goal.returns-else-follows-2
-returns-else-follows-2 c =
-    let a = c.args in
-    no_sequence a.s.now a.i c.requires.0 (_ ∷ []) later (later ∷ []) (a.i + 2) (omega arith) (after_four _ _ c.requires.1 (omega arith)) (sym (second c.before.before.before.before) ∙ c.if-follows.true, tt) (sym c.follows-then-follows.ensures ∙ c.if-follows-2.false)
-
-pub returns-else-follows : goal.returns-else-follows
-returns-else-follows c =
-    let a = c.args in
-    no_sequence a.s.now a.i c.requires.0 [] _ (later ∷ later ∷ []) (a.i + 1) (omega arith) (after_four _ _ c.requires.1 (omega arith)) tt (sym (second c.before.before) ∙ c.if-follows.false)
+pub returns : goal.returns
+returns c =
+    let s = c.args.s.now in
+    let b = get_or s 0 0 in
+    let second : c.follows.result ≡ next_in (low_after b to high_after b) (drop 1 s) = rw (c.second_of-low.ensures.0, c.second_of-low.ensures.1) at c.follows.ensures in
+    let two : c.if-follows.value ≡ (next_in (low_after b to high_after b) (drop 1 s) && next_in later (drop 2 s)) =
+    elim c.if-follows.branch [
+      | then-follows w ↦ rw (← second, w.if-follows.true) (w.value-is ∙ w.follows-then-follows.ensures)
+      | else-follows w ↦ rw (← second, w.if-follows.false) (w.value-is ∙ w.if-follows.false)
+    ] in
+    let all : c.if-follows-2.then_some ≡ follow s 1 (low_after b to high_after b ∷ later ∷ later ∷ []) =
+    elim c.if-follows-2.branch [
+      | then-follows-2 w ↦ rw (and-true, ← and_assoc, ← two, w.if-follows-2.true) (w.then_some-is ∙ w.follows-then-follows-2.ensures)
+      | else-follows-2 w ↦ rw (← and_assoc, ← two, w.if-follows-2.false) (w.then_some-is ∙ w.if-follows-2.false)
+    ] in
+    rw (c.then_some.ensures, all) (front s _ c.requires.0 (after_four _ _ c.requires.1 (omega arith)))

@@ -1,4 +1,4 @@
--- Both are moved first, so that zeros count.
+-- Both halves are moved first.
 use Rattle.writer.specs.Alike.{product_of}
 use Rattle.writer.proofs.alike.product.Goals as goal
 

@@ -1,25 +1,24 @@
--- Eight bytes at a time: those before i agree.
-use Rattle.std.proofs.Common.{◌-◌, length, arith}
-use Rattle.writer.specs.AlikeLaws.{eight_other, eight_more, eight_last}
+-- Byte by byte or by `==`: both say whether they are the same.
+use Rattle.std.proofs.Common.{length, ap, sym, ◌∙◌, ne_eqb, rules}
+use Rattle.std.proofs.lemmas.Bool.Decides.{same_from_decides, Decides-eqb}
+use Rattle.std.proofs.lemmas.Iterator.{YieldsList-from_slice, YieldsList-from_zip, same_from_all}
+use Rattle.std.proofs.lemmas.Slice.Eq.{slice_eq-Decides}
+use Rattle.writer.specs.AlikeLaws.{bytes_decide, bytes_other}
 use Rattle.writer.proofs.alike.same_bytes.Goals as goal
 
-pub loop-i-init : goal.loop-i-init
-loop-i-init c j l = absurd (omega arith)
+pub returns-then-a-ge8 : goal.returns-then-a-ge8
+returns-then-a-ge8 c = same_from_decides _ _ (slice_eq-Decides Decides-eqb _ _ _ c.eq.ensures) (bytes_decide c.args.a.now c.args.b.now)
 
-pub returns-then-not-same_eight : goal.returns-then-not-same_eight
-returns-then-not-same_eight c =
-    let a = c.args in
-    let x = c.same_eight in
-    eight_other a.a.now a.b.now c.loop-i.i 7 x.result x.ensures c.if-not-same_eight.true
+pub returns-then-a-b : goal.returns-then-a-b
+returns-then-a-b c =
+    let a = c.args.a.now in
+    let b = c.args.b.now in
+    same_from_decides _ _
+    (same_from_all c.all.new.self _ _ a b c.all.ensures.ran (YieldsList-from_zip (YieldsList-from_slice a cc) (YieldsList-from_slice b cc)) c.if-a-b.true (λ x q k. search rules) (λ x q k. search rules))
+    (bytes_decide a b)
 
-pub loop-i-preserved : goal.loop-i-preserved
-loop-i-preserved c =
-    let a = c.args in
-    let x = c.same_eight in
-    let l = c.loop-i in
-    eight_more a.a.now a.b.now l.i 7 x.result x.ensures c.if-not-same_eight.false l.invariant
-
-pub returns : goal.returns
-returns c =
-    let l = c.loop-i in
-    eight_last c.args.a.now c.args.b.now (length c.args.a.now - 8) 7 c.same_eight-2.result c.same_eight-2.ensures c.requires (omega arith) (λ j k. l.invariant j (omega arith))
+pub returns-else-a-b : goal.returns-else-a-b
+returns-else-a-b c =
+    let a = c.args.a.now in
+    let b = c.args.b.now in
+    ne_eqb _ _ c.if-a-b.false ∙ sym (bytes_other a b (λ e. c.if-a-b.false (ap length e)))

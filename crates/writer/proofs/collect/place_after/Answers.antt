@@ -10,4 +10,4 @@ returns-in_default c m next e =
 pub returns : goal.returns
 returns c m next e =
     let a = c.args in
-    after_at a.tape.now a.at c.end_of.result c.end_of.ensures m next e c.in-At.end c.in-At.is
+    after_at a.tape.now a.at c.end_of.result c.end_of.ensures m next e c.in-Some.end c.in-Some.is

@@ -12,14 +12,14 @@ bucket_of-requires c = let f = sought_fits c.requires in (c.hash_of-hash.ensures
 pub overflow_add-slot : goal.overflow_add-slot
 overflow_add-slot c = omega (arith, sought_fits c.requires)
 
-pub word-met-requires : goal.word-met-requires
-word-met-requires c = omega (arith, sought_fits c.requires)
+pub read-met-requires : goal.read-met-requires
+read-met-requires c = omega (arith, sought_fits c.requires)
 
 pub loop-met-init : goal.loop-met-init
 loop-met-init c =
     let hash = c.hash_of-hash in
     let bucket = c.bucket_of in
-    search_start c.requires hash.result bucket.result c.word-met.result hash.ensures.0 bucket.ensures.0 bucket.ensures.1 c.word-met.ensures.0
+    search_start c.requires hash.result bucket.result c.read-met.result hash.ensures.0 bucket.ensures.0 bucket.ensures.1 c.read-met.ensures.0
 
 pub is_same-requires : goal.is_same-requires
 is_same-requires c = met_within c.requires c.loop-met.invariant c.loop-met-test.true
@@ -45,8 +45,8 @@ overflow_add-slot-in-loop-met-2 c = omega (arith, met_fits c.requires c.loop-met
 pub overflow_add-slot-in-loop-met-3 : goal.overflow_add-slot-in-loop-met-3
 overflow_add-slot-in-loop-met-3 c = omega (arith, met_fits c.requires c.loop-met.invariant c.loop-met-test.true)
 
-pub word-met-requires-in-loop-met : goal.word-met-requires-in-loop-met
-word-met-requires-in-loop-met c = let f = met_fits c.requires c.loop-met.invariant c.loop-met-test.true in omega (arith, sought_fits c.requires)
+pub read-met-requires-in-loop-met : goal.read-met-requires-in-loop-met
+read-met-requires-in-loop-met c = let f = met_fits c.requires c.loop-met.invariant c.loop-met-test.true in omega (arith, sought_fits c.requires)
 
 pub overflow_add-steps : goal.overflow_add-steps
 overflow_add-steps c = omega (arith, met_fits c.requires c.loop-met.invariant c.loop-met-test.true)
@@ -60,17 +60,17 @@ loop-met-preserved c =
     let hash = c.hash_of-hash in
     let side = c.side_of in
     search_on c.requires c.loop-met.invariant c.loop-met-test.true same.result same.ensures c.if-is_same.false
-    hash.result side.result c.word-met-in-loop-met.result hash.ensures.0 side.ensures.0 side.ensures.1 c.word-met-in-loop-met.ensures.0
+    hash.result side.result c.read-met-in-loop-met.result hash.ensures.0 side.ensures.0 side.ensures.1 c.read-met-in-loop-met.ensures.0
 
 pub overflow_add-e : goal.overflow_add-e
 overflow_add-e c = omega (arith, sought_fits c.requires)
 
-pub set_word-requires : goal.set_word-requires
-set_word-requires c = (search_room c.requires c.loop-met.invariant, omega (arith, sought_fits c.requires))
+pub write-requires : goal.write-requires
+write-requires c = (search_room c.requires c.loop-met.invariant, omega (arith, sought_fits c.requires))
 
 pub returns : goal.returns
 returns c =
     let h = c.requires in
     let l = c.loop-met in
     let free : l.met ≡ 0 = omega arith in
-    (record { value = free_here h l.invariant free; entered = free_entered h l.invariant free c.set_word.new.work c.set_word.ensures })
+    (record { value = free_here h l.invariant free; entered = free_entered h l.invariant free c.write.new.work c.write.ensures })

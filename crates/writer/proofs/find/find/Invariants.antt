@@ -4,7 +4,7 @@ use Rattle.writer.specs.Find.{Search}
 use Rattle.writer.proofs.find.find.Given as goal
 
 abbrev pub invariant-loop-met : goal.invariant-loop-met
-invariant-loop-met l = Search l.tape l.work l.n l.e l.bytes l.slot l.met l.steps
+invariant-loop-met l = Search l.events.tape.now l.work l.events.n l.e l.bytes l.slot l.met l.steps
 
 abbrev pub decreases-loop-met : goal.decreases-loop-met
 decreases-loop-met l = l.e - l.steps

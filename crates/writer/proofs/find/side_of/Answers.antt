@@ -9,7 +9,7 @@ returns-then-steps-lt32 c = rw (lt-ltb _ _ c.if-steps-lt32.true) c.bit.ensures
 
 pub returns-then-i-bytes : goal.returns-then-i-bytes
 unfolding side_of
-returns-then-i-bytes c = rw (le-ltb _ _ c.if-steps-lt32.false, lt-ltb _ _ c.if-i-bytes.true, ← c.whole.ensures) c.bit-then-i-bytes.ensures
+returns-then-i-bytes c = rw (le-ltb _ _ c.if-steps-lt32.false, lt-ltb _ _ c.if-i-bytes.true, ← c.from.ensures) c.bit-then-i-bytes.ensures
 
 pub returns : goal.returns
 unfolding side_of

@@ -8,10 +8,10 @@ use Rattle.writer.proofs.plan.plan_file.Goals as goal
 
 pub planned-requires : goal.planned-requires
 planned-requires c =
-    let o = c.requires.0 in
+    let o = c.args.events.ready in
     let m = c.measure-sums.ensures.bytes_value in
     let k = numbered_count o _ c.assign-count.result c.assign-count.ensures.1 in
-    let n = count_within c.args.tape.now c.args.n o in
+    let n = count_within c.args.events.tape.now c.args.events.n o in
     let few = ready_few o in (
       omega (arith, k, n.0),
       omega (arith, k, n.1),
@@ -24,4 +24,4 @@ returns c =
     let m = c.measure-sums.ensures.bytes_value in
     let s = c.assign-count.ensures in
     let p = c.planned.ensures in
-    planned_is c.args.tape.now c.args.n c.requires.0 _ _ _ _ c.planned.result s.0 s.1 m.0 m.1 p.0 p.1 p.2 p.3
+    planned_is c.args.events.tape.now c.args.events.n c.args.events.ready _ _ _ _ c.planned.result s.0 s.1 m.0 m.1 p.0 p.1 p.2 p.3

@@ -17,9 +17,6 @@ use Rattle.writer.proofs.put.put_first.Goals as goal
 pub word-at-requires : goal.word-at-requires
 word-at-requires c = omega (arith, first_in c.requires.1, c.requires.1.indexed.long)
 
-pub overflow_add-n : goal.overflow_add-n
-overflow_add-n c = omega (arith, first_in c.requires.1, c.requires.1.indexed.long)
-
 pub word-units-requires : goal.word-units-requires
 word-units-requires c = omega (arith, first_in c.requires.1, c.requires.1.indexed.long)
 

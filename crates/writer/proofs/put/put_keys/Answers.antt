@@ -12,15 +12,6 @@ put_once-pos-requires c =
     let h = c.loop-i-test.true in
     (g.mid, (met g h).bytes, saying_single g h c.requires.3.room)
 
-pub overflow_add-n : goal.overflow_add-n
-overflow_add-n c = omega (arith, met_in (c.loop-i.invariant _ _ _ c.requires.3) c.loop-i-test.true)
-
-pub overflow_add-n-in-loop-i : goal.overflow_add-n-in-loop-i
-overflow_add-n-in-loop-i c = omega (arith, met_in (c.loop-i.invariant _ _ _ c.requires.3) c.loop-i-test.true)
-
-pub overflow_add-n-in-loop-i-2 : goal.overflow_add-n-in-loop-i-2
-overflow_add-n-in-loop-i-2 c = omega (arith, met_in (c.loop-i.invariant _ _ _ c.requires.3) c.loop-i-test.true)
-
 pub word-i-requires : goal.word-i-requires
 word-i-requires c =
     let g = c.loop-i.invariant _ _ _ c.requires.3 in

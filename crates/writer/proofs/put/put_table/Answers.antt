@@ -1,25 +1,36 @@
 -- Word by word.
-use Rattle.std.proofs.Common.{◌*◌}
-use Rattle.writer.proofs.Numbers.{down_start, down_fits, down_turn, down_done}
+use Rattle.std.proofs.Common.{◌≡◌, ◌+◌, ◌-◌, ◌*◌, length, slice_range, ◌∙◌, arith}
+use Rattle.std.proofs.lemmas.List.Edits.{length-between}
+use Rattle.writer.proofs.Numbers.{rest_start, list_fits, list_turn, list_done}
 use Rattle.writer.proofs.put.put_table.Goals as goal
 
-pub loop-i-init : goal.loop-i-init
-loop-i-init c =
+pub loop-place-init : goal.loop-place-init
+loop-place-init c =
     let a = c.args in
-    down_start a.work.now (a.n * 5) a.count a.out.now a.table a.size
+    rest_start a.out.now a.table a.size (slice_range a.work.now (a.events.n * 5) (a.events.n * 5 + a.count))
 
 pub put_at-pos-requires : goal.put_at-pos-requires
 put_at-pos-requires c =
-    let p = c.requires in
-    down_fits c.loop-i.invariant p.0 c.loop-i-test.true p.1
+    let a = c.args in
+    let l = c.loop-place in
+    let xs = slice_range a.work.now (a.events.n * 5) (a.events.n * 5 + a.count) in
+    let long : length xs ≡ a.count = length-between a.work.now (a.events.n * 5) (a.events.n * 5 + a.count) c.requires.0 ∙ omega arith in
+    list_fits a.out.now a.table a.size xs l.out l.place-index l.pos l.invariant c.loop-place-test.true (rw long c.requires.1)
 
-pub loop-i-preserved : goal.loop-i-preserved
-loop-i-preserved c =
+pub loop-place-preserved : goal.loop-place-preserved
+loop-place-preserved c =
+    let a = c.args in
+    let l = c.loop-place in
     let p = c.put_at-pos.ensures in
-    rw (p.0, p.1, c.word.ensures.0) (down_turn c.loop-i.invariant c.requires.0 c.loop-i-test.true)
+    let xs = slice_range a.work.now (a.events.n * 5) (a.events.n * 5 + a.count) in
+    rw (p.0, p.1, c.from.ensures) (list_turn a.out.now a.table a.size xs l.out l.place-index l.pos l.invariant c.loop-place-test.true)
 
 pub shape_of-out : goal.shape_of-out
-shape_of-out c = c.loop-i.invariant.rest.long
+shape_of-out c = c.loop-place.invariant.long
 
 pub returns : goal.returns
-returns c = down_done c.loop-i.invariant c.loop-i-test.false
+returns c =
+    let a = c.args in
+    let l = c.loop-place in
+    let k : a.events.n * 5 + a.count - a.events.n * 5 ≡ a.count = omega arith in
+    rw k at (list_done a.out.now a.table a.size (slice_range a.work.now (a.events.n * 5) (a.events.n * 5 + a.count)) l.out l.place-index l.pos l.invariant c.loop-place-test.false)

@@ -1,10 +1,7 @@
 -- Word by word.
-use Rattle.std.proofs.Common.{◌-◌, ◌*◌}
-use Rattle.writer.proofs.Numbers.{Down}
+use Rattle.std.proofs.Common.{drop}
+use Rattle.writer.proofs.Numbers.{Rest}
 use Rattle.writer.proofs.put.put_table.Given as goal
 
-abbrev pub invariant-loop-i : goal.invariant-loop-i
-invariant-loop-i l = Down l.work (l.n * 5) l.count l.initial.out l.table l.size l.out l.i l.pos
-
-abbrev pub decreases-loop-i : goal.decreases-loop-i
-decreases-loop-i l = l.count - l.i
+abbrev pub invariant-loop-place : goal.invariant-loop-place
+invariant-loop-place l = Rest l.initial.out l.table l.size l.places l.out l.pos (drop l.place-index l.places)

@@ -9,4 +9,4 @@ returns c =
     let e = c.put_at-3.ensures.1 in
     let f = c.put_at-2.ensures.1 in
     let a = c.args in
-    d ∙ rw (e, f, c.put_at.ensures.1) (sym (trailer_parts a.out.now a.pos a.size a.width a.count a.table (omega arith) (omega arith)))
+    d ∙ rw (e, f, c.put_at.ensures.1) (sym (trailer_parts a.out.now a.pos a.size a.plan.width a.plan.count a.plan.table (omega arith) (omega arith)))

@@ -1,21 +1,16 @@
--- Word by word.
-use Rattle.std.proofs.Common.{sym, refl, ◌∙◌, add-one, arith, length-set}
-use Rattle.writer.specs.ClearLaws.{cleared_turn, cleared_done}
+-- A part is filled.
+use Rattle.std.proofs.Common.{◌≡◌, ℕ, ◌-◌, length, replicate, slice_range, ap, ◌∙◌, arith}
+use Rattle.std.proofs.lemmas.List.{length-replicate}
+use Rattle.std.proofs.lemmas.List.Edits.{length-between}
+use Rattle.tape.proofs.AppendLaws.{put_part}
+use Rattle.writer.specs.Columns.{cleared}
+use borrow.Rule.Slice.PartMut.{put_mid}
 use Rattle.writer.proofs.words.clear.Goals as goal
 
-pub loop-i-init : goal.loop-i-init
-loop-i-init c = (c.requires.0, refl, refl)
-
-pub loop-i-preserved : goal.loop-i-preserved
-loop-i-preserved c =
-    let l = c.loop-i in
-    let a = c.args in
-    (omega arith, rw length-set l.invariant.1, rw add-one (sym (cleared_turn l.work l.i a.to c.loop-i-test.true) ∙ l.invariant.2))
-
-pub shape_of-work : goal.shape_of-work
-shape_of-work c = c.loop-i.invariant.1
-
 pub returns : goal.returns
+unfolding cleared
 returns c =
-    let l = c.loop-i in
-    sym (cleared_done l.work l.i c.args.to c.loop-i-test.false) ∙ l.invariant.2
+    let a = c.args in
+    let n : length (slice_range a.work.now a.from a.to) ≡ a.to - a.from = length-between a.work.now a.from a.to c.requires.1 in
+    ap (put_mid a.from (a.to - a.from) a.work.now) (c.fill.ensures.after (λ y e. e) ∙ ap (λ (k : ℕ). replicate k 0) n) ∙
+    put_part a.work.now a.from a.to (replicate (a.to - a.from) 0) (rw length-replicate (omega arith)) c.requires.1

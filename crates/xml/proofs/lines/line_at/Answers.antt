@@ -1,9 +1,9 @@
 -- `line_at` puts the line of the item that stands there; text has its own function.
+use Rattle.std.specs.Prelude.{Some}
 use mathlib.Core.Path.{◌≡◌, sym, ◌∙◌}
 use native.Mathlib.Omega.{arith}
 use Rattle.number.specs.BeLaws.{Bytes, bytes_of_law}
 use Rattle.tape.specs.Item.{item_at}
-use Rattle.tape.specs.declared.item.Step.TheVariants.{Item as ItemOf}
 use Rattle.xml.proofs.Telling.{not_bad, held_within, item_span, lent_short, lent_allowed, tells_item}
 use borrow.Author.Rules.{rules}
 use Rattle.xml.proofs.lines.line_at.Goals as goal
@@ -19,8 +19,8 @@ returns-in_default c =
     absurd (not_bad c.requires.2.item (sym c.in_default.is ∙ c.item_at.ensures ∙ c.requires.2.is))
 
 -- the item, of a tape that is bytes
-at_item : (x : lts.Past-After-known_told tie.the-claims reads.Pre reads.Post) → Bytes x.args.tape.now × (item_at x.args.tape.now x.args.at ≡ ItemOf x.in-Item.item)
-at_item x = (bytes_of_law x.args.tape.now (search rules), sym x.item_at.ensures ∙ x.in-Item.is)
+at_item : (x : lts.Past-After-known_told tie.the-claims reads.Pre reads.Post) → Bytes x.args.tape.now × (item_at x.args.tape.now x.args.at ≡ Some x.in-Some.item)
+at_item x = (bytes_of_law x.args.tape.now (search rules), sym x.item_at.ensures ∙ x.in-Some.is)
 
 pub slice_bounds-put_line-count : goal.slice_bounds-put_line-count
 slice_bounds-put_line-count c =

@@ -1,17 +1,13 @@
 -- `put_lines` puts what is left of the lines: every turn takes one event of it.
-use mathlib.Core.Path.{refl}
-use Prim.Native.Nat.{ℕ}
-use native.Mathlib.Omega.{arith}
+use Rattle.std.proofs.Common.{◌≡◌, ℕ, Ok, Err, refl, arith, rules}
 use Rattle.number.specs.BeLaws.{bytes_of_law}
+use Rattle.xml.specs.declared.answer.Bar.{Bar}
 use Rattle.xml.proofs.Laying.{stands_first, is_small_law, is_ended, is_held, Met, is_less, is_barred, is_stopped, is_past, is_room, is_into, is_open, is_out}
-use borrow.Author.Rules.{rules}
 use Rattle.xml.proofs.lines.put_lines.Goals as goal
-use Rattle.xml.proofs.lines.put_lines.Lts as lts
-use Rattle.xml.proofs.lines.put_lines.Reads as reads
-use Rattle.xml.proofs.lines.put_lines.Tie as tie
+use Rattle.xml.proofs.lines.put_lines.Goals.{After-line_at-told}
 
 -- the next event, once its line is known
-met : (x : lts.After-out tie.the-claims reads.Pre reads.Post goal.the-invariant-loop-at goal.the-decreases-loop-at) →
+met : (x : After-line_at-told) →
     let l = x.loop-at in
     let a = x.args in
     Met a.tape.now a.out.now a.from l.around l.depth l.due l.at l.to l.out x.line_at-told.result x.line_at-told.new.out
@@ -25,46 +21,43 @@ loop-at-init c =
 pub line_at-told-requires : goal.line_at-told-requires
 line_at-told-requires c = let s = c.loop-at.invariant in (is_small_law s, s.short, is_held s c.loop-at-test.true)
 
-pub returns-in-Barred : goal.returns-in-Barred
-returns-in-Barred c = is_barred (met c.before.before.before) c.in-Barred.is
+pub returns-in_err-to : goal.returns-in_err-to
+returns-in_err-to c =
+    let e : (b : Bar) × (c.line_at-told.result.line ≡ Err b) × (c.from_residual.result ≡ Err (b, c.loop-at.at)) = search rules in
+    rw e.2 (is_barred (met (goal.at.returns-in_err-to c).After-line_at-told) e.1)
 
 pub loop-at-smaller-in-Past : goal.loop-at-smaller-in-Past
-loop-at-smaller-in-Past c = is_less (met c.before.before.before.before)
+loop-at-smaller-in-Past c = is_less (met (goal.at.loop-at-smaller-in-Past c).After-line_at-told)
 
 pub loop-at-preserved-in-Past : goal.loop-at-preserved-in-Past
 loop-at-preserved-in-Past c =
-    is_past (met c.before.before.before.before) c.in-End.is c.in-Past.is
+    let e : c.line_at-told.result.line ≡ Ok c.in_ok-to.to = search rules in
+    is_past (met (goal.at.loop-at-preserved-in-Past c).After-line_at-told) e c.in-Past.is
 
 pub bounds-around-depth : goal.bounds-around-depth
-bounds-around-depth c = omega (arith, is_room (met c.before.before.before.before) c.in-Into.is)
-
-pub overflow_add-depth : goal.overflow_add-depth
-overflow_add-depth c = omega (arith, is_room (met c.before.before.before.before) c.in-Into.is)
+bounds-around-depth c = omega (arith, is_room (met (goal.at.bounds-around-depth c).After-line_at-told) c.in-Into.is)
 
 pub loop-at-smaller-in-Into : goal.loop-at-smaller-in-Into
-loop-at-smaller-in-Into c = is_less (met c.before.before.before.before)
+loop-at-smaller-in-Into c = is_less (met (goal.at.loop-at-smaller-in-Into c).After-line_at-told)
 
 pub loop-at-preserved-in-Into : goal.loop-at-preserved-in-Into
 loop-at-preserved-in-Into c =
-    is_into (met c.before.before.before.before) c.in-End.is c.in-Into.is
+    let e : c.line_at-told.result.line ≡ Ok c.in_ok-to.to = search rules in
+    is_into (met (goal.at.loop-at-preserved-in-Into c).After-line_at-told) e c.in-Into.is
 
 pub overflow_sub-depth : goal.overflow_sub-depth
-overflow_sub-depth c = omega (arith, is_open (met c.before.before.before.before) c.in-Out.is)
-
-pub bounds-around-depth-in-Out : goal.bounds-around-depth-in-Out
-bounds-around-depth-in-Out c =
-    let loop = c.loop-at in
-    omega (arith, is_open (met c.before.before.before.before) c.in-Out.is, loop.invariant.shallow)
+overflow_sub-depth c = omega (arith, is_open (met (goal.at.overflow_sub-depth c).After-line_at-told) c.in-Out.is)
 
 pub loop-at-smaller : goal.loop-at-smaller
-loop-at-smaller c = is_less (met c.before.before.before.before.before)
+loop-at-smaller c = is_less (met (goal.at.loop-at-smaller c).After-line_at-told)
 
 pub loop-at-preserved : goal.loop-at-preserved
 loop-at-preserved c =
-    is_out (met c.before.before.before.before.before) c.in-End.is c.in-Out.is
+    let e : c.line_at-told.result.line ≡ Ok c.in_ok-to.to = search rules in
+    is_out (met (goal.at.loop-at-preserved c).After-line_at-told) e c.in-Out.is
 
-pub returns-in-Barred-way : goal.returns-in-Barred-way
-returns-in-Barred-way c = absurd (is_stopped (met c.before.before.before.before) c.in-Barred-way.is)
+pub returns-in-Barred : goal.returns-in-Barred
+returns-in-Barred c = absurd (is_stopped (met (goal.at.returns-in-Barred c).After-line_at-told) c.in-Barred.is)
 
 pub returns : goal.returns
 returns c = is_ended c.loop-at.invariant c.loop-at-test.false

@@ -7,9 +7,6 @@ use Rattle.xml.specs.PutLaws.{placed, placed_put, placed_append}
 use Rattle.xml.specs.Xml.{start_tag, end_tag, line, element}
 use Rattle.xml.proofs.put.put_data.Goals as goal
 
-pub write_piece-start-requires : goal.write_piece-start-requires
-write_piece-start-requires c = omega (arith, c.requires.0)
-
 pub overflow_add-start : goal.overflow_add-start
 overflow_add-start c =
     let write-piece = c.write_piece-start in

@@ -1,20 +1,9 @@
 -- `put_integer` writes the digits between their tags.
 use mathlib.Core.Path.{ap}
 use Prim.Native.Nat.{ℕ, ◌+◌}
-use native.Mathlib.Omega.{arith}
 use Rattle.xml.specs.PutLaws.{placed, placed_put, placed_append}
 use Rattle.xml.specs.Xml.{start_tag, end_tag, line, element}
 use Rattle.xml.proofs.put.put_integer.Goals as goal
-
-pub overflow_add-start : goal.overflow_add-start
-overflow_add-start c =
-    let write-piece = c.write_piece-start in
-    omega (arith, write-piece.ensures.place, c.signed_length.ensures.upper_bound, c.requires)
-
-pub write_piece-requires : goal.write_piece-requires
-write_piece-requires c =
-    let write-piece = c.write_piece-start in
-    omega (arith, write-piece.ensures.place, c.signed_length.ensures.upper_bound, c.requires)
 
 pub returns : goal.returns
 unfolding element start_tag end_tag line

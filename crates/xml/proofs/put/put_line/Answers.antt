@@ -1,5 +1,5 @@
 -- `put_line` puts the line of each kind of event, or says why there is none.
-use mathlib.Core.Path.{refl}
+use Rattle.std.proofs.Common.{refl, inl, inr}
 use Rattle.event.specs.Meaning.{meaning_of}
 use Rattle.tape.specs.Code.{allowed}
 use Rattle.xml.specs.LineLaws.{lined_puts, lined_bars, lined_date, lined_text}
@@ -40,20 +40,16 @@ pub returns-in-Integer : goal.returns-in-Integer
 unfolding meaning_of bar_of line_for start_tag line
 returns-in-Integer c = rw c.in-Integer.is (lined_puts _ _ _ _ _ _ refl (puts c.put_integer.ensures))
 
-pub returns-in-Real : goal.returns-in-Real
-unfolding meaning_of bar_of bar_number
-returns-in-Real c = rw c.in-Real.is (lined_bars _ _ _ _ _ _ refl)
-
-pub returns-in-Nan : goal.returns-in-Nan
-unfolding meaning_of bar_of bar_number
-returns-in-Nan c = rw c.in-Nan.is (lined_bars _ _ _ _ _ _ refl)
-
 pub returns-in-String : goal.returns-in-String
 unfolding meaning_of allowed
 returns-in-String c =
     let u = rw c.in-String.is at c.requires.2 in
     rw c.in-String.is (lined_text _ _ _ _ _ _ u (rw c.is_key-in-String.ensures at c.put_other.ensures))
 
-pub returns-in-Uid : goal.returns-in-Uid
+pub returns-in-Real : goal.returns-in-Real
 unfolding meaning_of bar_of bar_number
-returns-in-Uid c = rw c.in-Uid.is (lined_bars _ _ _ _ _ _ refl)
+returns-in-Real c =
+    elim c.in-Real.is [
+      | inl a ↦ rw a.1 (lined_bars _ _ _ _ _ _ refl)
+      | inr b ↦ elim b [ inl a ↦ rw a.1 (lined_bars _ _ _ _ _ _ refl) | inr a ↦ rw a.1 (lined_bars _ _ _ _ _ _ refl) ]
+    ]

@@ -1,9 +1,6 @@
 -- `put_escaped` measures, copies where nothing is escaped, and else writes where there is room.
 use mathlib.Core.Path.{◌≡◌, sym, ◌∙◌}
-use Prim.Native.Nat.{◌+◌, ◌≤◌}
 use native.Mathlib.Omega.{arith}
-use borrow.Author.Tests.{leb-true}
-use lib.ListN.{length}
 use Rattle.xml.specs.PutLaws.{placed, placed_none}
 use Rattle.xml.specs.Text.{more_in}
 use Rattle.xml.specs.TextLaws.{length_escape, more_most, more_none}
@@ -14,13 +11,6 @@ returns-then-size-s c =
     let s = c.args.s.now in
     let none : more_in s ≡ 0 = omega (arith, length_escape s, c.escaped_size-size.ensures, c.if-size-s.true) in
     rw (more_none s none) (placed c.write_piece.ensures)
-
-pub write_escaped-requires : goal.write_escaped-requires
-write_escaped-requires c =
-    let a = c.args in
-    let escaped-size = c.escaped_size-size in
-    let h : a.at + escaped-size.result ≤ length a.out.now = leb-true _ _ (sym c.fits.ensures ∙ c.if-fits.true) in
-    omega (arith, h, escaped-size.ensures)
 
 pub overflow_add-result : goal.overflow_add-result
 overflow_add-result c =

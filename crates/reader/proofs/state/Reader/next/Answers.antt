@@ -13,38 +13,38 @@ use Rattle.reader.specs.Said.{number_of, values_of, said, step_said}
 use Rattle.reader.specs.State.{open_of, innermost}
 use Rattle.reader.proofs.Steps.{Going, due, looked, is_wrong, is_last, closes, Named, is_missing, is_refused, passes, counts, Holding, is_again, is_deep, enters, short_number, short_count, scalar_number, short_offset}
 use Rattle.reader.proofs.state.Reader.next.Goals as goal
-use Rattle.reader.proofs.state.Reader.next.Goals.{Else-depth-gt-MAX_OPEN, In-Allowed-width_of, In-Close, In-Container, In-Member}
+use Rattle.reader.proofs.state.Reader.next.Goals.{Else-depth-gt-MAX_OPEN, In-Some-width_of, In-Close, In-Container, In-Member}
 
 -- where nothing has been refused yet
 sizes : (c : goal.Else-depth-gt-MAX_OPEN) → next_of c.args.file.now c.args.self ≡ go_on c.args.file.now c.args.self (width_of c.args.self.offsets) (width_of c.args.self.refs)
 sizes c = next_on c.args.file.now c.args.self c.if-self.false c.if-depth-eq0.false c.if-file-gt-MAX_LENGTH.false c.if-self-file.false c.if-depth-gt-MAX_OPEN.false
 
 -- the call, once its sizes are known
-abbrev going : goal.In-Allowed-width_of → Going
+abbrev going : goal.In-Some-width_of → Going
 going c =
     let f = c.args.file.now in
     let r = c.args.self in
     record {
       file = f;
       reader = r;
-      layout = record { offsets = c.in-Allowed.offsets; refs = c.in-Allowed-width_of.refs; count = r.count; table = r.table };
+      layout = record { offsets = c.in-Some.offsets; refs = c.in-Some-width_of.refs; count = r.count; table = r.table };
       short = c.if-file-gt-MAX_LENGTH.false;
       few = omega arith;
       some = c.if-depth-eq0.false;
-      on = next_due f r c.if-self.false c.if-depth-eq0.false c.if-file-gt-MAX_LENGTH.false c.if-self-file.false c.if-depth-gt-MAX_OPEN.false _ (sym c.width_of.ensures ∙ c.in-Allowed.is) (sym c.width_of-2.ensures ∙ c.in-Allowed-width_of.is) refl refl;
+      on = next_due f r c.if-self.false c.if-depth-eq0.false c.if-file-gt-MAX_LENGTH.false c.if-self-file.false c.if-depth-gt-MAX_OPEN.false _ (sym c.width_of.ensures ∙ c.in-Some.is) (sym c.width_of-2.ensures ∙ c.in-Some-width_of.is) refl refl;
     }
 
 -- what is due: the innermost container's end, or an object
-due_close : (c : goal.In-Close) → due (going (goal.at.In-Close c).In-Allowed-width_of) ≡ Close c.in-Close.offset
+due_close : (c : goal.In-Close) → due (going (goal.at.In-Close c).In-Some-width_of) ≡ Close c.in-Close.offset
 unfolding innermost
 due_close c = sym (due_said_one _ _ c.due_at.ensures) ∙ c.in-Close.is
 
-due_member : (c : goal.In-Member) → due (going (goal.at.In-Member c).In-Allowed-width_of) ≡ Member c.in-Member.object
+due_member : (c : goal.In-Member) → due (going (goal.at.In-Member c).In-Some-width_of) ≡ Member c.in-Member.object
 unfolding innermost
 due_member c = sym (due_said_one _ _ c.due_at.ensures) ∙ c.in-Member.is
 
 abbrev named : goal.In-Member → Named
-named c = record { going = going (goal.at.In-Member c).In-Allowed-width_of; object = c.in-Member.object; is = due_member c }
+named c = record { going = going (goal.at.In-Member c).In-Some-width_of; object = c.in-Member.object; is = due_member c }
 
 -- which is a container
 found-container : (c : goal.In-Container) → looked (named (goal.at.In-Container c).In-Member) ≡ container (shape_said c.in-Container.shape) c.in-Container.length c.in-Container.offset
@@ -81,19 +81,19 @@ pub returns-in_default-width_of : goal.returns-in_default-width_of
 unfolding go_on with_refs number_of values_of
 returns-in_default-width_of c =
     c.kept-in_default-width_of.ensures ∙
-    sym (sizes (goal.at.returns-in_default-width_of c).Else-depth-gt-MAX_OPEN ∙ rw (sym c.width_of.ensures ∙ c.in-Allowed.is, sym c.width_of-2.ensures ∙ c.in_default-width_of.is))
+    sym (sizes (goal.at.returns-in_default-width_of c).Else-depth-gt-MAX_OPEN ∙ rw (sym c.width_of.ensures ∙ c.in-Some.is, sym c.width_of-2.ensures ∙ c.in_default-width_of.is))
 
 pub returns-in-Wrong : goal.returns-in-Wrong
 unfolding innermost number_of values_of
-returns-in-Wrong c = c.kept-in-Wrong.ensures ∙ is_wrong (going (goal.at.returns-in-Wrong c).In-Allowed-width_of) (sym (due_said_one _ _ c.due_at.ensures) ∙ c.in-Wrong.is)
+returns-in-Wrong c = c.kept-in-Wrong.ensures ∙ is_wrong (going (goal.at.returns-in-Wrong c).In-Some-width_of) (sym (due_said_one _ _ c.due_at.ensures) ∙ c.in-Wrong.is)
 
 pub returns-then-top-eq0 : goal.returns-then-top-eq0
 unfolding step_said innermost
-returns-then-top-eq0 c = rw c.handed.ensures (is_last (going (goal.at.returns-then-top-eq0 c).In-Allowed-width_of) _ (due_close (goal.at.returns-then-top-eq0 c).In-Close) c.if-top-eq0.true)
+returns-then-top-eq0 c = rw c.handed.ensures (is_last (going (goal.at.returns-then-top-eq0 c).In-Some-width_of) _ (due_close (goal.at.returns-then-top-eq0 c).In-Close) c.if-top-eq0.true)
 
 pub returns-in-Close : goal.returns-in-Close
 unfolding step_said innermost
-returns-in-Close c = rw c.handed-in-Close.ensures (closes (going (goal.at.returns-in-Close c).In-Allowed-width_of) _ (due_close (goal.at.returns-in-Close c).In-Close) c.if-top-eq0.false)
+returns-in-Close c = rw c.handed-in-Close.ensures (closes (going (goal.at.returns-in-Close c).In-Some-width_of) _ (due_close (goal.at.returns-in-Close c).In-Close) c.if-top-eq0.false)
 
 pub returns-in-Missing : goal.returns-in-Missing
 unfolding number_of values_of look_said
