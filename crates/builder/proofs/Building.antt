@@ -27,7 +27,7 @@ use Rattle.tape.specs.declared.append.Appended.TheVariants.{Held as HeldOn, BadE
 use Rattle.builder.specs.Build.{Said, holds, refused, answer_said, judge_of, fitted_of, by_way, build_of, tape_by, tape_after, builder_by, builder_after}
 use Rattle.builder.specs.CallsLaws.{Clear}
 use Rattle.builder.specs.State.{due_of, moved_by}
-use Rattle.builder.specs.declared.answer.Answer.TheVariants.{Held}
+use Rattle.std.specs.Prelude.{Ok}
 use Rattle.builder.specs.declared.state.Builder.{Builder}
 
 -- an event with bytes beside it
@@ -100,11 +100,11 @@ module _ (b : Builder) (tape : List ℕ) (m : Meaning) (sound : Sound m) where
       unfolding fitted_of fits
       by_room = by_way_law s ∙ rw (← is) (clear_fitted b.held (length (bytes_for m)) (length tape) w free)
 
-      pub taken : {x : Appended} {l : List ℕ} {c : Builder} (end : ℕ) → x ≡ HeldOn end → said x ≡ put_of tape b.held (bytes_for m) → l ≡ put_to tape b.held (bytes_for m) → c ≡ moved_by w b end → Promised (answer_said (Held end)) l c
+      pub taken : {x : Appended} {l : List ℕ} {c : Builder} (end : ℕ) → x ≡ HeldOn end → said x ≡ put_of tape b.held (bytes_for m) → l ≡ put_to tape b.held (bytes_for m) → c ≡ moved_by w b end → Promised (answer_said (Ok end)) l c
       unfolding said put_of put_to answer_said tape_after tape_by builder_after builder_by
       taken {x} {l} {c} end e p q g = go (fits tape b.held (bytes_for m)) refl
         where
-          go : (v : Bool) → fits tape b.held (bytes_for m) ≡ v → Promised (answer_said (Held end)) l c
+          go : (v : Bool) → fits tape b.held (bytes_for m) ≡ v → Promised (answer_said (Ok end)) l c
           go true h =
               let k : append.held end ≡ append.held (b.held + length (bytes_for m)) = rw (e, h) at p in
               let n : end ≡ b.held + length (bytes_for m) = cc in

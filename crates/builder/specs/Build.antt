@@ -1,5 +1,5 @@
 -- What a builder answers to an event. docs/FORMAT.md, rules B3 to B5.
-use Rattle.std.specs.Prelude.{cond, List, [], ℕ, ◌+◌, ltb, leb, length, Option}
+use Rattle.std.specs.Prelude.{Result, Ok, Err, Option, cond, List, [], ℕ, ◌+◌, ltb, leb, length}
 use Rattle.std.proofs.lemmas.List.Edits.{sets}
 use Rattle.event.specs.Format.{max_length}
 use Rattle.event.specs.Meaning.{Meaning}
@@ -15,8 +15,8 @@ use Rattle.grammar.specs.declared.turn.Due.{Due}
 use Rattle.grammar.specs.declared.way.Way.{Way}
 use Rattle.grammar.specs.declared.way.Way.TheVariants.{Past, Into, Out, Barred}
 use Rattle.builder.specs.State.{due_of, moved_by}
-use Rattle.builder.specs.declared.answer.Answer.{Answer}
-use Rattle.builder.specs.declared.answer.Answer.TheVariants.{Held, Refused, NoRoom, TapeShrank}
+use Rattle.builder.specs.declared.answer.BuildError.{BuildError}
+use Rattle.builder.specs.declared.answer.BuildError.TheVariants.{Refused, NoRoom, TapeShrank}
 use Rattle.builder.specs.declared.build.Container.{Container}
 use Rattle.builder.specs.declared.build.Container.TheVariants.{Array, Dictionary}
 use Rattle.builder.specs.declared.state.Builder.{Builder}
@@ -26,11 +26,11 @@ pub data Said : Type 0 where
   holds : ℕ → Said
   refused : ℕ → List EventKind → ℕ → Said
 
-unfoldable pub answer_said : Answer → Said
-answer_said (Held n) = holds n
-answer_said (Refused r place) = refused (number_of r) (kinds_of r) place
-answer_said (NoRoom place) = refused 27 [] place
-answer_said TapeShrank = refused 32 [] 0
+unfoldable pub answer_said : Result ℕ BuildError → Said
+answer_said (Ok n) = holds n
+answer_said (Err (Refused r place)) = refused (number_of r) (kinds_of r) place
+answer_said (Err (NoRoom place)) = refused 27 [] place
+answer_said (Err TapeShrank) = refused 32 [] 0
 
 unfoldable pub start_of : Container → Option ℕ → Event
 start_of Array given = StartArray given

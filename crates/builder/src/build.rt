@@ -8,7 +8,7 @@ ghost use Rattle.tape.specs.BytesLaws.{Sound};
 ghost use Rattle.builder.specs.Build.{answer_said, start_of, judge_of, build_of, tape_after, builder_after};
 ghost use Rattle.builder.specs.State.{due_of, moved_by};
 
-use crate::answer::{Answer, Built};
+use crate::answer::BuildError;
 use crate::state::{Builder, behind, due_of, pushed};
 use event::Event;
 use event::limits::{MAX_LENGTH, MAX_OPEN};
@@ -25,43 +25,31 @@ pub enum Container {
     Dictionary,
 }
 
-// A container's start. Of this call and the next two: a refusal leaves the builder and the tape as they are, and a depth above the limit, which
-// no call answers, counts as the limit. The last clause is here since only code knows that numbers have 64 bits and bytes eight.
+// A container's start. It answers how many bytes are held then. Of this call and the next two: a refusal leaves the builder and the tape as they
+// are, and a depth above the limit, which no call answers, counts as the limit. The last clause is here since only code knows that numbers have 64
+// bits and bytes eight.
 pub fn start(
-    mut builder: Builder,
+    builder: &mut Builder,
     tape: &mut [u8],
     container: Container,
     given: Option<u64>,
-) -> Built
-    ensures answer_value { answer_said result.answer ≡ build_of builder (length tape.old) (meaning_of (start_of container given) []) }
-    ensures tape_after { tape.new ≡ tape_after builder tape.old (meaning_of (start_of container given) []) }
-    ensures builder_value { result.builder ≡ builder_after builder (length tape.old) (meaning_of (start_of container given) []) }
+) -> Result<usize, BuildError>
+    ensures answer_value { answer_said result ≡ build_of builder.old (length tape.old) (meaning_of (start_of container given) []) }
+    ensures tape_after { tape.new ≡ tape_after builder.old tape.old (meaning_of (start_of container given) []) }
+    ensures builder_after { builder.new ≡ builder_after builder.old (length tape.old) (meaning_of (start_of container given) []) }
     ensures sound { Sound (meaning_of (start_of container given) []) }
 {
-    let answer = build(&mut builder, tape, start_of(container, given), b"");
-    Built { builder, answer }
-}
-
-// A value, with the bytes of data or text. No number says that an event is no value: a start or an end is taken as the other two take it.
-pub fn value(mut builder: Builder, tape: &mut [u8], event: Event, bytes: &[u8]) -> Built
-    ensures answer_value { answer_said result.answer ≡ build_of builder (length tape.old) (meaning_of event bytes.now) }
-    ensures tape_after { tape.new ≡ tape_after builder tape.old (meaning_of event bytes.now) }
-    ensures builder_value { result.builder ≡ builder_after builder (length tape.old) (meaning_of event bytes.now) }
-    ensures sound { Sound (meaning_of event bytes.now) }
-{
-    let answer = build(&mut builder, tape, event, bytes);
-    Built { builder, answer }
+    value(builder, tape, start_of(container, given), b"")
 }
 
 // The end of the innermost container.
 #[tactic(auto, unfolding(event::specs::Meaning::meaning_of))]
-pub fn end(mut builder: Builder, tape: &mut [u8]) -> Built
-    ensures answer_value { answer_said result.answer ≡ build_of builder (length tape.old) close }
-    ensures tape_after { tape.new ≡ tape_after builder tape.old close }
-    ensures builder_value { result.builder ≡ builder_after builder (length tape.old) close }
+pub fn end(builder: &mut Builder, tape: &mut [u8]) -> Result<usize, BuildError>
+    ensures answer_value { answer_said result ≡ build_of builder.old (length tape.old) close }
+    ensures tape_after { tape.new ≡ tape_after builder.old tape.old close }
+    ensures builder_after { builder.new ≡ builder_after builder.old (length tape.old) close }
 {
-    let answer = build(&mut builder, tape, Event::EndCollection, b"");
-    Built { builder, answer }
+    value(builder, tape, Event::EndCollection, b"")
 }
 
 #[tactic(auto, unfolding(crate::specs::Build::start_of))]
@@ -74,8 +62,14 @@ fn start_of(container: Container, given: Option<u64>) -> Event
     }
 }
 
-// The builder goes by its state and never reads what is held.
-fn build(builder: &mut Builder, tape: &mut [u8], event: Event, bytes: &[u8]) -> Answer
+// A value, with the bytes of data or text. No number says that an event is no value: a start or an end is taken as the other two take it. The
+// builder goes by its state and never reads what is held.
+pub fn value(
+    builder: &mut Builder,
+    tape: &mut [u8],
+    event: Event,
+    bytes: &[u8],
+) -> Result<usize, BuildError>
     ensures answer_value { answer_said result ≡ build_of builder.old (length tape.old) (meaning_of event bytes.now) }
     ensures tape_after { tape.new ≡ tape_after builder.old tape.old (meaning_of event bytes.now) }
     ensures builder_after { builder.new ≡ builder_after builder.old (length tape.old) (meaning_of event bytes.now) }
@@ -83,20 +77,20 @@ fn build(builder: &mut Builder, tape: &mut [u8], event: Event, bytes: &[u8]) -> 
 {
     let held = builder.held;
     if tape.len() < held {
-        return Answer::TapeShrank;
+        return Err(BuildError::TapeShrank);
     }
     if lacks_event(MAX_LENGTH, held, event, bytes) {
-        return Answer::Refused(Refusal::TooLong, 0);
+        return Err(BuildError::Refused(Refusal::TooLong, 0));
     }
     let way = judge(builder.due, builder.depth, event, bytes);
     if let Way::Barred(refusal) = way {
-        return Answer::Refused(refusal, held as u64);
+        return Err(BuildError::Refused(refusal, held as u64));
     }
     let Appended::Held(end) = unchecked::append(tape, held, event, bytes) else {
-        return Answer::NoRoom(held as u64);
+        return Err(BuildError::NoRoom(held as u64));
     };
     step(builder, way, end);
-    Answer::Held(end)
+    Ok(end)
 }
 
 // Where an event leads that is on no tape yet: 23, then 20, then 21 and 15. Above 3 nothing is due.

@@ -11,7 +11,8 @@ struct Split {
     exact: bool,
 }
 
-// Seconds since 0001-01-01 00:00:00, if they lie in the range. The number is one of seconds since 2001. From 2^38 on, either way, all numbers are outside, infinities and NaNs too.
+// Seconds since 0001-01-01 00:00:00, if they lie in the range. The number is one of seconds since 2001.
+// From 2^38 on, either way, all numbers are outside, infinities and NaNs too.
 pub(crate) fn since_of(bits: u64) -> Option<u64>
     ensures { result ≡ since_of bits }
 {

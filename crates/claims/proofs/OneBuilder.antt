@@ -41,14 +41,11 @@ use Rattle.exports_build.proofs.build.zm_build_finish.Kinds as zm-build-finish-k
 use Rattle.exports_build.proofs.build.zm_build_finish.Reads as zm-build-finish-reads
 use Rattle.builder.specs.Finish.{finish_used}
 use Rattle.builder.specs.SaidLaws.{answer_said_one, finished_said_one}
-use Rattle.builder.specs.declared.answer.Built.{Built}
+use Rattle.builder.specs.declared.state.Builder.{Builder}
 use Rattle.exports_build.specs.Build.{finished_used}
 use Rattle.exports.specs.TapeAppend.{chosen_meaning}
 use Rattle.event.specs.Meaning.{Meaning}
 use Rattle.reader.proofs.One.{One, OneView}
-
-same_built : (x y : Built) → x.answer ≡ y.answer → x.builder ≡ y.builder → x ≡ y
-same_built x y a b = rw (a, b)
 
 open_words_one : One 0 open-words-kinds.ps open-words-kinds.r open-words-reads.Post (Unit {0}) (λ κs e. tt)
 open_words_one κs a x y e f p q = (p ∙ sym q, refl)
@@ -71,14 +68,14 @@ load_one κs a x y e f p q = (p ∙ sym q, refl)
 store_one : One 1 store-kinds.ps store-kinds.r store-reads.Post (List ℕ) (λ κs e. e.0.now)
 store_one κs a x y e f p q = (refl, p ∙ sym q)
 
-start_one : One 1 start-kinds.ps start-kinds.r start-reads.Post (List ℕ) (λ κs e. e.1.0.now)
-start_one κs a x y e f p q = (same_built x y (answer_said_one x.answer y.answer (p.0 ∙ sym q.0)) (p.1.1.0 ∙ sym q.1.1.0), p.1.0 ∙ sym q.1.0)
+start_one : One 2 start-kinds.ps start-kinds.r start-reads.Post (record { builder : Builder; tape : List ℕ }) (λ κs e. record { builder = e.0.now; tape = e.1.0.now })
+start_one κs a x y e f p q = (answer_said_one x y (p.0 ∙ sym q.0), rw (p.1.1.0 ∙ sym q.1.1.0, p.1.0 ∙ sym q.1.0))
 
-value_one : One 2 value-kinds.ps value-kinds.r value-reads.Post (List ℕ) (λ κs e. e.1.0.now)
-value_one κs a x y e f p q = (same_built x y (answer_said_one x.answer y.answer (p.0 ∙ sym q.0)) (p.1.1.0 ∙ sym q.1.1.0), p.1.0 ∙ sym q.1.0)
+value_one : One 3 value-kinds.ps value-kinds.r value-reads.Post (record { builder : Builder; tape : List ℕ }) (λ κs e. record { builder = e.0.now; tape = e.1.0.now })
+value_one κs a x y e f p q = (answer_said_one x y (p.0 ∙ sym q.0), rw (p.1.1.0 ∙ sym q.1.1.0, p.1.0 ∙ sym q.1.0))
 
-end_one : One 1 end-kinds.ps end-kinds.r end_reads.Post (List ℕ) (λ κs e. e.1.0.now)
-end_one κs a x y e f p q = (same_built x y (answer_said_one x.answer y.answer (p.0 ∙ sym q.0)) (p.1.1 ∙ sym q.1.1), p.1.0 ∙ sym q.1.0)
+end_one : One 2 end-kinds.ps end-kinds.r end_reads.Post (record { builder : Builder; tape : List ℕ }) (λ κs e. record { builder = e.0.now; tape = e.1.0.now })
+end_one κs a x y e f p q = (answer_said_one x y (p.0 ∙ sym q.0), rw (p.1.1 ∙ sym q.1.1, p.1.0 ∙ sym q.1.0))
 
 -- the words stand below: their first eight for each event are left open (docs/EXCEPTIONS.md)
 finish_one : One 3 finish-kinds.ps finish-kinds.r finish-reads.Post (List ℕ) (λ κs e. e.1.1.1.0.now)

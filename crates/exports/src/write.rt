@@ -5,7 +5,7 @@ ghost use Rattle.writer.specs.Write.{written_said, write_of, output_of, used_of}
 ghost use Rattle.exports.specs.Write.{write_code, write_value, expected_number, found_number, written_numbers};
 
 use crate::numbers::Numbers;
-use writer::answer::Written;
+use writer::answer::WriteError;
 use writer::write_file;
 
 // Answers 0 and the file's length in `value`; or a refusal's number, with its place in `value`. `expected` and `found` are the numbers of the
@@ -35,14 +35,14 @@ pub extern "C" fn zm_write(
 }
 
 #[tactic(auto, unfolding(crate::specs::Computed::written))]
-pub fn written_numbers(written: Written) -> Numbers
+pub fn written_numbers(written: Result<usize, WriteError>) -> Numbers
     ensures { result ≡ written_numbers (written_said written) }
 {
     match written {
-        Written::Length(n) => Numbers::plain(0, n as u64),
-        Written::Refused(refusal, place) => Numbers::refused(refusal, place),
-        Written::NoRoomForWork => Numbers::plain(24, 0),
-        Written::NoRoomForOutput => Numbers::plain(25, 0),
-        Written::FileTooLong => Numbers::plain(26, 0),
+        Ok(n) => Numbers::plain(0, n as u64),
+        Err(WriteError::Refused(refusal, place)) => Numbers::refused(refusal, place),
+        Err(WriteError::NoRoomForWork) => Numbers::plain(24, 0),
+        Err(WriteError::NoRoomForOutput) => Numbers::plain(25, 0),
+        Err(WriteError::FileTooLong) => Numbers::plain(26, 0),
     }
 }

@@ -2,12 +2,13 @@
 ghost use Rattle.std.specs.Prelude.{◌≡◌, length, drop};
 ghost use Rattle.builder.specs.Build.{answer_said};
 ghost use Rattle.builder.specs.Finish.{finished_said};
-ghost use Rattle.exports_build.specs.Build.{begin_code, begun_words, numbers_by, written_numbers, call_of, called_words, called_tape, words_by, finish_call, finished_output, finished_used, Handed};
+ghost use Rattle.exports_build.specs.Build.{begin_code, begun_words, numbers_by, call_of, called_words, called_tape, words_by, Handed};
+ghost use Rattle.exports_build.specs.Build.{written_numbers, finish_call, finished_output, finished_used};
 ghost use Rattle.exports.specs.TapeAppend.{meaning_for};
 
-use builder::answer::Answer;
+use builder::answer::BuildError;
 use builder::build;
-use builder::finish::{Finished, finish};
+use builder::finish::{FinishError, finish};
 use builder::state::Builder;
 use builder::words::{WORDS, load, store};
 use exports::numbers::Numbers;
@@ -66,34 +67,34 @@ fn called(builder: &mut [u32], tape: &mut [u8], kind: u32, value: u64, bytes: &[
     let Some(event) = event_for(kind, value) else {
         return Numbers::plain(251, 0);
     };
-    let built = build::value(load(builder), tape, event, bytes);
-    let answer = built.answer;
-    keep(builder, built.builder, answer);
+    let mut state = load(builder);
+    let answer = build::value(&mut state, tape, event, bytes);
+    keep(builder, state, answer);
     answered(answer)
 }
 
 #[tactic(auto, unfolding(crate::specs::Computed::answered))]
-fn answered(answer: Answer) -> Numbers
+fn answered(answer: Result<usize, BuildError>) -> Numbers
     ensures { result ≡ numbers_by (answer_said answer) }
 {
     match answer {
-        Answer::Held(n) => Numbers::plain(0, n as u64),
-        Answer::Refused(refusal, place) => Numbers::refused(refusal, place),
-        Answer::NoRoom(place) => Numbers::plain(27, place),
-        Answer::TapeShrank => Numbers::plain(32, 0),
+        Ok(n) => Numbers::plain(0, n as u64),
+        Err(BuildError::Refused(refusal, place)) => Numbers::refused(refusal, place),
+        Err(BuildError::NoRoom(place)) => Numbers::plain(27, place),
+        Err(BuildError::TapeShrank) => Numbers::plain(32, 0),
     }
 }
 
 // The words behind a call: those of the builder where the event was taken, else as they were.
 #[tactic(auto, unfolding(crate::specs::Build::words_by, builder::specs::Build::answer_said))]
-fn keep(words: &mut [u32], builder: Builder, answer: Answer)
-    ensures { words.new ≡ words_by (answer_said answer) words.old builder }
+fn keep(words: &mut [u32], state: Builder, answer: Result<usize, BuildError>)
+    ensures { words.new ≡ words_by (answer_said answer) words.old state }
 {
     match answer {
-        Answer::Held(_) => store(words, builder),
-        Answer::Refused(_, _) => {}
-        Answer::NoRoom(_) => {}
-        Answer::TapeShrank => {}
+        Ok(_) => store(words, state),
+        Err(BuildError::Refused(_, _)) => {}
+        Err(BuildError::NoRoom(_)) => {}
+        Err(BuildError::TapeShrank) => {}
     }
 }
 
@@ -113,7 +114,8 @@ pub extern "C" fn zm_build_finish(
     ensures expected_after { expected.new ≡ (written_numbers (finish_call builder.now tape.now (length work.old) (length out.old))).expected }
     ensures found_after { found.new ≡ (written_numbers (finish_call builder.now tape.now (length work.old) (length out.old))).found }
     ensures out_after { out.new ≡ finished_output builder.now tape.now (length work.old) out.old }
-    ensures work_unchanged { drop (finished_used builder.now tape.now (length work.old)) work.new ≡ drop (finished_used builder.now tape.now (length work.old)) work.old }
+    ensures work_unchanged { drop (finished_used builder.now tape.now (length work.old)) work.new
+        ≡ drop (finished_used builder.now tape.now (length work.old)) work.old }
 {
     let numbers = finished(builder, tape, work, out);
     *value = numbers.place;
@@ -125,7 +127,8 @@ pub extern "C" fn zm_build_finish(
 fn finished(builder: &[u32], tape: &[u8], work: &mut [u32], out: &mut [u8]) -> Numbers
     ensures value { result ≡ written_numbers (finish_call builder.now tape.now (length work.old) (length out.old)) }
     ensures out_after { out.new ≡ finished_output builder.now tape.now (length work.old) out.old }
-    ensures work_unchanged { drop (finished_used builder.now tape.now (length work.old)) work.new ≡ drop (finished_used builder.now tape.now (length work.old)) work.old }
+    ensures work_unchanged { drop (finished_used builder.now tape.now (length work.old)) work.new
+        ≡ drop (finished_used builder.now tape.now (length work.old)) work.old }
 {
     if builder.len() < WORDS {
         return Numbers::plain(252, 0);
@@ -133,11 +136,12 @@ fn finished(builder: &[u32], tape: &[u8], work: &mut [u32], out: &mut [u8]) -> N
     file_numbers(finish(load(builder), tape, work, out))
 }
 
-fn file_numbers(finished: Finished) -> Numbers
+fn file_numbers(finished: Result<usize, FinishError>) -> Numbers
     ensures { result ≡ written_numbers (finished_said finished) }
 {
-    let Finished::Written(written) = finished else {
-        return Numbers::plain(32, 0);
-    };
-    written_numbers(written)
+    match finished {
+        Ok(length) => written_numbers(Ok(length)),
+        Err(FinishError::Writer(error)) => written_numbers(Err(error)),
+        Err(FinishError::TapeShrank) => Numbers::plain(32, 0),
+    }
 }

@@ -4,5 +4,5 @@ use Rattle.exports_find.specs.Find
 use Rattle.lookup.specs.Find as lookup
 
 unfoldable pub found : Unit {0}
-unfolding Find.find_code Find.find_start Find.find_length Find.find_expected Find.find_found lookup.found_said Write.first_number Write.second_number
+unfolding Find.find_code Find.find_start Find.find_length Find.find_expected Find.find_found lookup.found_said lookup.part_said Write.first_number Write.second_number
 found = tt

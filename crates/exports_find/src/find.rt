@@ -5,7 +5,7 @@ ghost use Rattle.lookup.specs.Find.{found_said, find_of};
 ghost use Rattle.exports_find.specs.Find.{find_code, find_start, find_length, find_expected, find_found};
 
 use exports::numbers::Numbers;
-use lookup::answer::Found;
+use lookup::answer::{FindError, Part};
 use lookup::find::find;
 
 // Answers 0, and where the part begins and how long it is; 254, and twice 0, where there is no such value; or a refusal's number, with its
@@ -36,7 +36,7 @@ pub extern "C" fn zm_find(
 
 // With the length of the part that is found.
 #[tactic(auto, unfolding(crate::specs::Computed::found))]
-fn found_numbers(answer: Found) -> (Numbers, u64)
+fn found_numbers(answer: Result<Option<Part>, FindError>) -> (Numbers, u64)
     ensures code { result.0.code ≡ find_code (found_said answer) }
     ensures start { result.0.place ≡ find_start (found_said answer) }
     ensures length { result.1 ≡ find_length (found_said answer) }
@@ -44,9 +44,9 @@ fn found_numbers(answer: Found) -> (Numbers, u64)
     ensures found { result.0.found ≡ find_found (found_said answer) }
 {
     match answer {
-        Found::Part(start, length) => (Numbers::plain(0, start as u64), length as u64),
-        Found::Nowhere => (Numbers::plain(254, 0), 0),
-        Found::Refused(refusal, place) => (Numbers::refused(refusal, place), 0),
-        Found::BadPath => (Numbers::plain(33, 0), 0),
+        Ok(Some(part)) => (Numbers::plain(0, part.start as u64), part.length as u64),
+        Ok(None) => (Numbers::plain(254, 0), 0),
+        Err(FindError::Refused(refusal, place)) => (Numbers::refused(refusal, place), 0),
+        Err(FindError::BadPath) => (Numbers::plain(33, 0), 0),
     }
 }

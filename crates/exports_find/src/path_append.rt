@@ -4,7 +4,7 @@ ghost use Rattle.lookup.specs.Append.{added_of, added_to};
 ghost use Rattle.exports.specs.Codes.{Lent};
 ghost use Rattle.exports_find.specs.PathAppend.{added_number};
 
-use lookup::append::{Added, append_key};
+use lookup::append::{AddError, append_key};
 
 // Adds a key to the path in the first `held` bytes; where none are held, a path of this key begins. Answers how many bytes are held then; 2^64 - 1
 // where the held bytes are no path, 2^64 - 2 where the path doesn't fit. Then nothing changes.
@@ -18,12 +18,12 @@ pub extern "C" fn zm_path_append(path: &mut [u8], held: usize, key: &[u8]) -> u6
 }
 
 #[tactic(auto, unfolding(crate::specs::PathAppend::added_number))]
-fn added_number(added: Added) -> u64
+fn added_number(added: Result<usize, AddError>) -> u64
     ensures { result ≡ added_number added }
 {
     match added {
-        Added::Held(n) => n as u64,
-        Added::NoRoom => 0xffff_ffff_ffff_fffe,
-        Added::NotPath => 0xffff_ffff_ffff_ffff,
+        Ok(n) => n as u64,
+        Err(AddError::NoRoom) => 0xffff_ffff_ffff_fffe,
+        Err(AddError::NotPath) => 0xffff_ffff_ffff_ffff,
     }
 }

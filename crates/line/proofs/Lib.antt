@@ -1,2 +1,3 @@
+pub mod EventLine
 pub mod Spaced
 pub mod Turns

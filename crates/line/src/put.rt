@@ -26,7 +26,7 @@ pub enum Fixed {
 }
 
 // The line of an event, beside which the bytes of its data or text stand, with a mark behind it or without.
-#[tactic(auto, unfolding(crate::specs::Put::event_line, crate::specs::Line::row_of, crate::specs::Line::truth, crate::specs::Piece::numeral_of, event::specs::Meaning::meaning_of))]
+#[tactic(auto, unfolding(crate::proofs::EventLine::opened))]
 pub fn put_event(
     out: &mut [u8],
     at: usize,

@@ -18,7 +18,8 @@ use Rattle.tape.specs.SevenLaws.{seven_few}
 use Rattle.tape.specs.declared.append.Appended.{Appended}
 use Rattle.tape.specs.declared.append.Appended.TheVariants as appended
 use Rattle.lookup.specs.Append.{added_in, moved}
-use Rattle.lookup.specs.declared.append.Added.TheVariants.{Held, NoRoom}
+use Rattle.lookup.specs.declared.append.AddError.TheVariants.{NoRoom}
+use Rattle.std.specs.Prelude.{Ok, Err}
 
 -- what `copy_within` leaves is what its name says
 pub moved_is : (memory : List ℕ) (from to by : ℕ) → from ≤ to → to + by ≤ length memory → copy_within memory from to (from + by) ≡ moved memory from to by
@@ -83,7 +84,7 @@ module _ (memory : List ℕ) (held first up : ℕ) (count measure key : List ℕ
   whole_long = simp length-append (omega (arith, body_long, is_up))
 
   -- there is no room
-  pub grow_not : ltb (length memory) (held + up + length measure + length key) ≡ true → (NoRoom ≡ added_in memory ((count ++ part memory first (held - first)) ++ (measure ++ key))) × (memory ≡ put_to memory 0 ((count ++ part memory first (held - first)) ++ (measure ++ key)))
+  pub grow_not : ltb (length memory) (held + up + length measure + length key) ≡ true → (Err NoRoom ≡ added_in memory ((count ++ part memory first (held - first)) ++ (measure ++ key))) × (memory ≡ put_to memory 0 ((count ++ part memory first (held - first)) ++ (measure ++ key)))
   unfolding body whole added_in put_to fits
   grow_not e =
       let h : length memory < held + up + length measure + length key = ltb-true (length memory) (held + up + length measure + length key) e in
@@ -104,9 +105,9 @@ module _ (memory : List ℕ) (held first up : ℕ) (count measure key : List ℕ
         let n : held + up ≡ length (count ++ body) = simp length-append (omega (arith, body_long, is_up)) in
         sets-eq count m 0 (omega (arith, l, room, is_up)) ∙ ap (λ (x : List ℕ). count ++ x) d ∙ sym (append_assoc count body (drop (held + up) memory)) ∙ ap (λ (i : ℕ). (count ++ body) ++ drop i memory) n
 
-    pub grow_held : Held (held + up + length measure + length key) ≡ added_in memory ((count ++ part memory first (held - first)) ++ (measure ++ key))
+    pub grow_held : Ok (held + up + length measure + length key) ≡ added_in memory ((count ++ part memory first (held - first)) ++ (measure ++ key))
     unfolding body whole added_in fits
-    grow_held = rw (le-leb (0 + length whole) (length memory) (omega (arith, room, whole_long))) (ap Held (sym whole_long))
+    grow_held = rw (le-leb (0 + length whole) (length memory) (omega (arith, room, whole_long))) (ap Ok (sym whole_long))
 
     pub grow_memory : sets (sets (sets (moved memory first held up) 0 count) (held + up) measure) (held + up + length measure) key ≡ put_to memory 0 ((count ++ part memory first (held - first)) ++ (measure ++ key))
     unfolding body whole put_to fits

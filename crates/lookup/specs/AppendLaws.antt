@@ -1,5 +1,5 @@
 -- What a key makes of a path: the path of one key more.
-use Rattle.std.specs.Prelude.{Bool, cond, ◌≡◌, ℕ, zero, suc, ◌+◌, ◌-◌, ◌/◌, ◌^◌, ◌≤◌, ◌<◌, ltb, leb, take, drop, None, Some, Option}
+use Rattle.std.specs.Prelude.{Ok, Err, Bool, cond, ◌≡◌, ℕ, zero, suc, ◌+◌, ◌-◌, ◌/◌, ◌^◌, ◌≤◌, ◌<◌, ltb, leb, take, drop, None, Some, Option}
 use Rattle.std.proofs.Math.Bool.{true, false}
 use Rattle.std.proofs.lemmas.Bool.{false≢true}
 use mathlib.Core.List.{List, [], ◌∷◌, ◌++◌, append_assoc, append-nil}
@@ -21,7 +21,7 @@ use Rattle.tape.specs.ValueLaws.{number_seven}
 use Rattle.lookup.specs.Append.{held_keys, added_in, added_by, added_of, after_by, added_to, grown, Growing}
 use Rattle.lookup.specs.KeysLaws.{keys_path}
 use Rattle.lookup.specs.Path.{keys_bytes, path_of, keys_from, keys_in, keys_of, is_some}
-use Rattle.lookup.specs.declared.append.Added.TheVariants.{Held, NoRoom, NotPath}
+use Rattle.lookup.specs.declared.append.AddError.TheVariants.{NoRoom, NotPath}
 
 -- a larger number has as many groups at least
 groups_rise : (k m n : ℕ) → m ≤ n → length (groups k m) ≤ length (groups k n)
@@ -69,7 +69,7 @@ module _ (memory key : List ℕ) where
 
   module _ (held : ℕ) (some_held : held ≡ 0 → ⊥) where
     -- too many are said to be held, or the bytes are no path
-    pub held_long : length memory < held → (NotPath ≡ added_of memory held key) × (memory ≡ added_to memory held key)
+    pub held_long : length memory < held → (Err NotPath ≡ added_of memory held key) × (memory ≡ added_to memory held key)
     unfolding added_of added_to held_keys added_by after_by
     held_long h = (rw (ne_eqb held 0 some_held, lt-leb held (length memory) h), rw (ne_eqb held 0 some_held, lt-leb held (length memory) h))
 
@@ -78,11 +78,11 @@ module _ (memory key : List ℕ) where
       unfolding held_keys
       keys_here = rw (ne_eqb held 0 some_held, le-leb held (length memory) inside)
 
-      held_not : keys_of (take held memory) ≡ None → (NotPath ≡ added_of memory held key) × (memory ≡ added_to memory held key)
+      held_not : keys_of (take held memory) ≡ None → (Err NotPath ≡ added_of memory held key) × (memory ≡ added_to memory held key)
       unfolding added_of added_to added_by after_by
       held_not e = (rw (keys_here, e), rw (keys_here, e))
 
-      pub held_uncounted : number_at (take held memory) 0 ≡ None → (NotPath ≡ added_of memory held key) × (memory ≡ added_to memory held key)
+      pub held_uncounted : number_at (take held memory) 0 ≡ None → (Err NotPath ≡ added_of memory held key) × (memory ≡ added_to memory held key)
       unfolding keys_of keys_in
       held_uncounted e = held_not (rw (e, keys_in))
 
@@ -91,7 +91,7 @@ module _ (memory key : List ℕ) where
         unfolding keys_of keys_in
         count_keys = rw (number, keys_in)
 
-        pub held_bad : is_some (keys_from count (take held memory) first) ≡ false → (NotPath ≡ added_of memory held key) × (memory ≡ added_to memory held key)
+        pub held_bad : is_some (keys_from count (take held memory) first) ≡ false → (Err NotPath ≡ added_of memory held key) × (memory ≡ added_to memory held key)
         unfolding is_some
         held_bad e = held_not (count_keys ∙ go (keys_from count (take held memory) first) e)
           where
@@ -153,11 +153,11 @@ pub record Made (memory key : List ℕ) (held next : ℕ) : Type 0 where
   pub after : take next (added_to memory held key) ≡ path_of (keys ++ (key ∷ []))
   pub behind : drop next (added_to memory held key) ≡ drop next memory
 
-pub added_path : (memory key : List ℕ) (held next : ℕ) → added_of memory held key ≡ Held next → Made memory key held next
+pub added_path : (memory key : List ℕ) (held next : ℕ) → added_of memory held key ≡ Ok next → Made memory key held next
 unfolding added_of added_to added_by after_by added_in put_to fits
 added_path memory key held next e = go (held_keys memory held) refl e
   where
-    room : (keys : List (List ℕ)) → held_keys memory held ≡ Some keys → (b : Bool) → leb (0 + length (path_of (keys ++ (key ∷ [])))) (length memory) ≡ b → cond b (Held (length (path_of (keys ++ (key ∷ []))))) NoRoom ≡ Held next → Made memory key held next
+    room : (keys : List (List ℕ)) → held_keys memory held ≡ Some keys → (b : Bool) → leb (0 + length (path_of (keys ++ (key ∷ [])))) (length memory) ≡ b → cond b (Ok (length (path_of (keys ++ (key ∷ []))))) (Err NoRoom) ≡ Ok next → Made memory key held next
     room keys k false f g = let z : ◌≡◌ {A = ℕ} 0 1 = cc in absurd (omega arith)
     room keys k true f g =
         let s : List ℕ = path_of (keys ++ (key ∷ [])) in
@@ -172,6 +172,6 @@ added_path memory key held next e = go (held_keys memory held) refl e
           behind = ap (drop next) w ∙ drop_at s (drop (0 + length s) memory) next n ∙ ap (λ (i : ℕ). drop i memory) z;
         }
 
-    go : (o : Option (List (List ℕ))) → held_keys memory held ≡ o → added_by memory key o ≡ Held next → Made memory key held next
+    go : (o : Option (List (List ℕ))) → held_keys memory held ≡ o → added_by memory key o ≡ Ok next → Made memory key held next
     go None k g = let z : ◌≡◌ {A = ℕ} 0 1 = cc in absurd (omega arith)
     go (Some keys) k g = room keys k (leb (0 + length (path_of (keys ++ (key ∷ [])))) (length memory)) refl g

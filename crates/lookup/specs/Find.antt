@@ -1,5 +1,5 @@
 -- What a lookup answers. docs/FORMAT.md, rules Q6 and Q7.
-use Rattle.std.specs.Prelude.{Some, None, List, [], ℕ, ◌-◌, length, Option}
+use Rattle.std.specs.Prelude.{Result, Ok, Err, Option, Some, None, List, [], ℕ, ◌-◌, length}
 use Rattle.number.specs.Part.{part}
 use Rattle.event.specs.Meaning.{Meaning}
 use Rattle.tape.specs.Events.{tape_of, meanings_in}
@@ -9,9 +9,9 @@ use Rattle.grammar.specs.Said as check
 use Rattle.grammar.specs.declared.answer.EventKind.{EventKind}
 use Rattle.lookup.specs.Path.{keys_of}
 use Rattle.lookup.specs.Value.{value_from, from_path}
-use Rattle.lookup.specs.declared.answer.Found.{Found}
-use Rattle.lookup.specs.declared.answer.Found.TheVariants.{Part, Nowhere, Refused, BadPath}
-use Rattle.lookup.specs.declared.answer.Part.{Part as Place}
+use Rattle.lookup.specs.declared.answer.FindError.{FindError}
+use Rattle.lookup.specs.declared.answer.FindError.TheVariants.{Refused, BadPath}
+use Rattle.lookup.specs.declared.answer.Part.{Part}
 
 -- where the part begins and how long it is; that there is none; or a refusal's number, what it names as expected and found, and its place
 pub data Said : Type 0 where
@@ -20,16 +20,15 @@ pub data Said : Type 0 where
   refused : ℕ → List EventKind → ℕ → Said
 
 -- what a part that is found says, or that there is none
-unfoldable pub part_said : Option Place → Said
+unfoldable pub part_said : Option Part → Said
 part_said (Some part) = found part.start part.length
 part_said None = not_found
 
 -- what the code's answer says
-unfoldable pub found_said : Found → Said
-found_said (Part start n) = found start n
-found_said Nowhere = not_found
-found_said (Refused r place) = refused (number_of r) (kinds_of r) place
-found_said BadPath = refused 33 [] 0
+unfoldable pub found_said : Result (Option Part) FindError → Said
+found_said (Ok o) = part_said o
+found_said (Err (Refused r place)) = refused (number_of r) (kinds_of r) place
+found_said (Err BadPath) = refused 33 [] 0
 
 -- Q6: the part of the tape that has the bytes of the value's events, which are the first of those from the value on
 unfoldable pub placed : List ℕ → Option (List Meaning) → Said

@@ -12,16 +12,16 @@ use tape::room::lacks_room;
 use tape::unchecked::put_number;
 use tape::value::number_at;
 
-// How many bytes the path has then, or why no key is added.
+// Why no key is added: the path of one more doesn't fit, or the bytes that are held are no path.
 #[derive(Clone, Copy)]
-pub enum Added {
-    Held(usize),
+pub enum AddError {
     NoRoom,
     NotPath,
 }
 
-// Adds a key to the path in the first `held` bytes; where none are held, a path of this key begins. Otherwise nothing changes.
-pub fn append_key(path: &mut [u8], held: usize, key: &[u8]) -> Added
+// Adds a key to the path in the first `held` bytes; where none are held, a path of this key begins. Answers how many bytes the path has then.
+// Otherwise nothing changes.
+pub fn append_key(path: &mut [u8], held: usize, key: &[u8]) -> Result<usize, AddError>
     ensures value { result ≡ added_of path.old held key.now }
     ensures path_after { path.new ≡ added_to path.old held key.now }
 {
@@ -29,19 +29,25 @@ pub fn append_key(path: &mut [u8], held: usize, key: &[u8]) -> Added
         return grow(path, 0, 0, 0, key);
     }
     if path.len() < held {
-        return Added::NotPath;
+        return Err(AddError::NotPath);
     }
     let Some((count, first)) = number_at(&path[..held], 0) else {
-        return Added::NotPath;
+        return Err(AddError::NotPath);
     };
     if !has_keys(&path[..held], count, first) {
-        return Added::NotPath;
+        return Err(AddError::NotPath);
     }
     grow(path, held, count, first, key)
 }
 
 // `count` keys stand from `first` on up to `held`, behind their count. They move up where the new count is longer.
-fn grow(path: &mut [u8], held: usize, count: u64, first: usize, key: &[u8]) -> Added
+fn grow(
+    path: &mut [u8],
+    held: usize,
+    count: u64,
+    first: usize,
+    key: &[u8],
+) -> Result<usize, AddError>
     requires { Growing path.old held count first }
     ensures value { result ≡ added_in path.old (grown path.old held count first key.now) }
     ensures path_after { path.new ≡ put_to path.old 0 (grown path.old held count first key.now) }
@@ -54,18 +60,17 @@ fn grow(path: &mut [u8], held: usize, count: u64, first: usize, key: &[u8]) -> A
     let at = held + up;
     let start = at + length_end - 1;
     if lacks_room(path.len(), start, key.len()) {
-        return Added::NoRoom;
+        return Err(AddError::NoRoom);
     }
     path.copy_within(first..held, first + up);
     write_bytes(path, 0, &counted[1..count_end]);
     write_bytes(path, at, &measured[1..length_end]);
     write_bytes(path, start, key);
-    Added::Held(start + key.len())
+    Ok(start + key.len())
 }
 
 // The groups of a number behind a byte, as the tape has them behind a kind; and where they end.
-fn groups(memory: &mut [u8], n: u64) -> usize
-    requires { length memory.old ≡ 11 }
+fn groups(memory: &mut [u8; 11], n: u64) -> usize
     ensures value { result ≡ 1 + length (seven n) }
     ensures n_after { part memory.new 1 (length (seven n)) ≡ seven n }
 {

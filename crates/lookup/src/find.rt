@@ -6,20 +6,21 @@ ghost use Rattle.lookup.specs.Find.{found_said, part_said, by_path, find_of, par
 ghost use Rattle.lookup.specs.Path.{is_some, keys_of, keys_from};
 ghost use Rattle.lookup.specs.Rest.{Rest};
 
-use crate::answer::{Found, Part};
+use crate::answer::{FindError, Part};
 use crate::path::{has_keys, key_at};
 use crate::seek::{value_end, value_under};
 use grammar::answer::Checked;
 use grammar::check::check_tape;
 use tape::value::number_at;
 
-// The tape is checked first, then the path. That the tape is bytes only code knows, and what is proved of the part asks for it.
-pub fn find(tape: &[u8], path: &[u8]) -> Found
+// Where the value's part of the tape is, or that there is no such value. The tape is checked first, then the path. That the tape is bytes only
+// code knows, and what is proved of the part asks for it.
+pub fn find(tape: &[u8], path: &[u8]) -> Result<Option<Part>, FindError>
     ensures result_value { found_said result ≡ find_of tape.now path.now }
     ensures bytes { Bytes tape.now }
 {
     match check_tape(tape) {
-        Checked::Refused(refusal, place) => Found::Refused(refusal, place),
+        Checked::Refused(refusal, place) => Err(FindError::Refused(refusal, place)),
         Checked::Whole(_) => find_in(tape, path),
     }
 }
@@ -29,31 +30,27 @@ pub fn find_part<'a>(tape: &'a [u8], path: &[u8]) -> &'a [u8]
     ensures { result.now ≡ part_of tape.now path.now }
 {
     match find(tape, path) {
-        Found::Part(start, length) => {
-            let end = start + length;
-            &tape[start..end]
+        Ok(Some(part)) => {
+            let end = part.start + part.length;
+            &tape[part.start..end]
         }
-        Found::Nowhere => &tape[0..0],
-        Found::Refused(_, _) => &tape[0..0],
-        Found::BadPath => &tape[0..0],
+        Ok(None) => &[],
+        Err(_) => &[],
     }
 }
 
 // The same in a tape that is one whole root.
-fn find_in(tape: &[u8], path: &[u8]) -> Found
+fn find_in(tape: &[u8], path: &[u8]) -> Result<Option<Part>, FindError>
     requires { Rest tape.now 0 (meanings_in tape.now) }
     ensures { found_said result ≡ by_path tape.now (keys_of path.now) (meanings_in tape.now) }
 {
     let Some((count, first)) = number_at(path, 0) else {
-        return Found::BadPath;
+        return Err(FindError::BadPath);
     };
     if !has_keys(path, count, first) {
-        return Found::BadPath;
+        return Err(FindError::BadPath);
     }
-    match find_under(tape, path, count, first) {
-        Some(part) => Found::Part(part.start, part.length),
-        None => Found::Nowhere,
-    }
+    Ok(find_under(tape, path, count, first))
 }
 
 // The path has its keys. The next one stands at `next`; the value under those before it begins at `at`.

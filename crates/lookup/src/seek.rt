@@ -9,6 +9,8 @@ use tape::unchecked::end_of;
 use tape::value::number_at;
 
 // The place behind the value that begins at a place: a scalar is one event, a container goes up to its end.
+// Kept: that events stand at the place is asked for here and twice below. Place and tape in one struct would have it as a ghost field, but it is
+// told by recursion along the events, so each proof would open it by hand.
 pub(crate) fn value_end(tape: &[u8], from: usize) -> usize
     requires { Rest tape.now from (events_at tape.now from) }
     ensures { Rest tape.now result (behind 0 (events_at tape.now from)) }

@@ -8,7 +8,7 @@ use hexlines::line::{after, next, number};
 use hexlines::stream::{fill, keep};
 use std::io;
 use std::io::{Read, Write};
-use writer::answer::Written;
+use writer::answer::WriteError;
 use writer::write_file;
 
 // More reads than there will be: the loop over the input needs an end.
@@ -106,8 +106,12 @@ fn kept(words: &[u32], first: usize) -> u64 {
 }
 
 // The file that was written, or the refusal.
-fn say_file<W: Write>(to: &mut W, written: Written, out: &[u8]) -> io::Result<()> {
-    let Written::Length(n) = written else {
+fn say_file<W: Write>(
+    to: &mut W,
+    written: Result<usize, WriteError>,
+    out: &[u8],
+) -> io::Result<()> {
+    let Ok(n) = written else {
         return say_answer(to, written);
     };
     to.write_all(b"file")?;
@@ -115,16 +119,16 @@ fn say_file<W: Write>(to: &mut W, written: Written, out: &[u8]) -> io::Result<()
     to.write_all(b"\n")
 }
 
-fn say_answer<W: Write>(to: &mut W, written: Written) -> io::Result<()> {
+fn say_answer<W: Write>(to: &mut W, written: Result<usize, WriteError>) -> io::Result<()> {
     match written {
-        Written::Length(n) => write!(to, "length {n}")?,
-        Written::Refused(refusal, place) => {
+        Ok(n) => write!(to, "length {n}")?,
+        Err(WriteError::Refused(refusal, place)) => {
             say_refusal(to, number_of(refusal) as u64, place)?;
             say_kinds(to, refusal)?;
         }
-        Written::NoRoomForWork => say_refusal(to, 24, 0)?,
-        Written::NoRoomForOutput => say_refusal(to, 25, 0)?,
-        Written::FileTooLong => say_refusal(to, 26, 0)?,
+        Err(WriteError::NoRoomForWork) => say_refusal(to, 24, 0)?,
+        Err(WriteError::NoRoomForOutput) => say_refusal(to, 25, 0)?,
+        Err(WriteError::FileTooLong) => say_refusal(to, 26, 0)?,
     }
     to.write_all(b"\n")
 }

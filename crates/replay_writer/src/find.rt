@@ -2,7 +2,7 @@
 use crate::answer::{say_bytes, say_kinds, say_refusal};
 use grammar::answer::number_of;
 use hexlines::hex::decode;
-use lookup::answer::Found;
+use lookup::answer::{FindError, Part};
 use lookup::find::{find, find_part};
 use std::io;
 use std::io::Write;
@@ -23,15 +23,15 @@ pub(crate) fn found_under<W: Write>(
     to.write_all(b"\n")
 }
 
-fn say_found<W: Write>(to: &mut W, found: Found) -> io::Result<()> {
+fn say_found<W: Write>(to: &mut W, found: Result<Option<Part>, FindError>) -> io::Result<()> {
     match found {
-        Found::Part(start, length) => write!(to, "found {start} {length}")?,
-        Found::Nowhere => to.write_all(b"nowhere")?,
-        Found::Refused(refusal, place) => {
+        Ok(Some(Part { start, length })) => write!(to, "found {start} {length}")?,
+        Ok(None) => to.write_all(b"nowhere")?,
+        Err(FindError::Refused(refusal, place)) => {
             say_refusal(to, number_of(refusal) as u64, place)?;
             say_kinds(to, refusal)?;
         }
-        Found::BadPath => say_refusal(to, 33, 0)?,
+        Err(FindError::BadPath) => say_refusal(to, 33, 0)?,
     }
     to.write_all(b"\n")
 }

@@ -69,10 +69,9 @@ fn short_width(s: &[u8]) -> Option<usize>
         return None;
     }
     if first < 0xE0 {
-        return follows(s, 1, 0x80, 0xBF).then_some(2);
+        return follows(s, 1, LATER).then_some(2);
     }
-    let (low, high) = second_of(first);
-    (follows(s, 1, low, high) && follows(s, 2, 0x80, 0xBF)).then_some(3)
+    (follows(s, 1, second_of(first)) && follows(s, 2, LATER)).then_some(3)
 }
 
 // The same from F0 on: four bytes.
@@ -84,20 +83,20 @@ fn long_width(s: &[u8]) -> Option<usize>
     if 0xF4 < first {
         return None;
     }
-    let (low, high) = second_of(first);
-    (follows(s, 1, low, high) && follows(s, 2, 0x80, 0xBF) && follows(s, 3, 0x80, 0xBF)).then_some(
-        4,
-    )
+    (follows(s, 1, second_of(first)) && follows(s, 2, LATER) && follows(s, 3, LATER)).then_some(4)
 }
 
+// The range of a later byte. Only the second byte of some sequences has another.
+const LATER: (u8, u8) = (0x80, 0xBF);
+
 // Whether a byte stands at a place, and within a range.
-fn follows(s: &[u8], i: usize, low: u8, high: u8) -> bool
-    ensures { result ≡ next_in (low to high) (drop i s.now) }
+fn follows(s: &[u8], i: usize, range: (u8, u8)) -> bool
+    ensures { result ≡ next_in (range.0 to range.1) (drop i s.now) }
 {
     if s.len() <= i {
         return false;
     }
-    low <= s[i] && s[i] <= high
+    range.0 <= s[i] && s[i] <= range.1
 }
 
 // The range of the byte after a first byte of a sequence of three or four.
@@ -109,7 +108,7 @@ fn second_of(first: u8) -> (u8, u8)
         0xED => (0x80, 0x9F),
         0xF0 => (0x90, 0xBF),
         0xF4 => (0x80, 0x8F),
-        _ => (0x80, 0xBF),
+        _ => LATER,
     }
 }
 

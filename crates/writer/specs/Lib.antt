@@ -1,3 +1,4 @@
+pub mod AgreeLaws
 pub mod Alike
 pub mod AlikeLaws
 pub mod AssignLaws

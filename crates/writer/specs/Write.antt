@@ -1,5 +1,5 @@
 -- What the writer answers, and what it leaves in the lent memory. docs/FORMAT.md, rules W17 and W18.
-use Rattle.std.specs.Prelude.{ℕ, ◌*◌, cond, List, [], length, nat_lt}
+use Rattle.std.specs.Prelude.{ℕ, ◌*◌, cond, List, [], length, nat_lt, Result, Ok, Err}
 use Rattle.std.proofs.lemmas.List.Edits.{sets}
 use Rattle.event.specs.Format.{max_length}
 use Rattle.tape.specs.Events.{meanings_in}
@@ -8,8 +8,8 @@ use Rattle.grammar.specs.Said.{number_of, kinds_of}
 use Rattle.grammar.specs.Said as check
 use Rattle.grammar.specs.declared.answer.EventKind.{EventKind}
 use Rattle.written.specs.File.{file_for}
-use Rattle.writer.specs.declared.answer.Written.{Written}
-use Rattle.writer.specs.declared.answer.Written.TheVariants.{Length, Refused, NoRoomForWork, NoRoomForOutput, FileTooLong}
+use Rattle.writer.specs.declared.answer.WriteError.{WriteError}
+use Rattle.writer.specs.declared.answer.WriteError.TheVariants.{Refused, NoRoomForWork, NoRoomForOutput, FileTooLong}
 
 -- the file's length; or a refusal's number, what it names as expected and found, and its place
 pub data Said : Type 0 where
@@ -17,12 +17,12 @@ pub data Said : Type 0 where
   refused : ℕ → List EventKind → ℕ → Said
 
 -- what the code's answer says
-unfoldable pub written_said : Written → Said
-written_said (Length n) = long n
-written_said (Refused r place) = refused (number_of r) (kinds_of r) place
-written_said NoRoomForWork = refused 24 [] 0
-written_said NoRoomForOutput = refused 25 [] 0
-written_said FileTooLong = refused 26 [] 0
+unfoldable pub written_said : Result ℕ WriteError → Said
+written_said (Ok n) = long n
+written_said (Err (Refused r place)) = refused (number_of r) (kinds_of r) place
+written_said (Err NoRoomForWork) = refused 24 [] 0
+written_said (Err NoRoomForOutput) = refused 25 [] 0
+written_said (Err FileTooLong) = refused 26 [] 0
 
 -- words for n events
 unfoldable pub words_for : ℕ → ℕ

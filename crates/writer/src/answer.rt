@@ -1,10 +1,9 @@
-// What the writer answers.
+// Why the writer writes no file.
 use grammar::answer::Refusal;
 
-// The file's length; or the tape's refusal with its place; or what there is too little room for, or that the file would be too long.
+// The tape's refusal with its place; or what there is too little room for; or that the file would be too long.
 #[derive(Clone, Copy)]
-pub enum Written {
-    Length(usize),
+pub enum WriteError {
     Refused(Refusal, u64),
     NoRoomForWork,
     NoRoomForOutput,

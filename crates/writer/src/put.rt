@@ -34,6 +34,8 @@ pub(crate) fn put_file(events: Events, work: &mut [u32], plan: Plan, out: &mut [
 }
 
 // All objects, as the events come.
+// Kept: here and below the output and the place in it are two parameters. In one struct, lent as &mut, each function would also have to promise
+// that the output in it is still the same one.
 fn put_objects(events: Events, work: &mut [u32], width: usize, out: &mut [u8])
     requires { Unsaid events.tape.now work.old out.old events.n width }
     ensures { let es = pieces_in events.entry.tape.now in

@@ -22,6 +22,8 @@ pub(crate) enum Column {
 }
 
 // The events of a tape that is one whole root. They travel through all passes together with the words.
+// Kept: the words, eight for each event, are a parameter of their own. In this struct, as &mut, they would be held by one pass alone, and each
+// would have to promise that they are still the same words.
 #[derive(Clone, Copy)]
 pub(crate) struct Events<'a> {
     pub(crate) tape: &'a [u8],

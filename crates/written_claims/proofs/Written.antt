@@ -1,5 +1,6 @@
 -- Through the promises: where `write_file` answers with a length, so many bytes of the output are a file of which all that is claimed holds; and where
 -- `transcribe` is given that file and room enough, it leaves the events on its tape, lengths filled in.
+use Rattle.std.specs.Prelude.{Ok}
 use mathlib.Core.List.{List, map}
 use mathlib.Core.Logic.{◌↔◌}
 use mathlib.Core.Path.{◌≡◌, sym, ap, ◌∙◌}
@@ -20,7 +21,6 @@ use Rattle.transcribe.proofs.transcribe.Kinds as transcribe-kinds
 use Rattle.transcribe.proofs.transcribe.Reads as transcribe-reads
 use Rattle.written.specs.File.{file_for}
 use Rattle.writer.specs.Write.{written_said}
-use Rattle.writer.specs.declared.answer.Written.TheVariants.{Length}
 use Rattle.writer.proofs.write_file.Kinds as write-file-kinds
 use Rattle.writer.proofs.write_file.Reads as write-file-reads
 use Rattle.written_claims.specs.Accepted.{Accepted}
@@ -47,7 +47,7 @@ file_in tape words before after k w e =
 
 -- what `write_file` answers and leaves
 pub write_file_good : (κs : Lfts 3) (a : Dens κs write-file-kinds.ps) (x : (res_t write-file-kinds.r κs).Denot) (e : AtExit (ended_of 3 write-file-kinds.ps write-file-kinds.r) κs)
-    → write-file-reads.Post κs a x e → (k : ℕ) → x ≡ Length k → FileIn a.0.now a.1.1.0.now e.1.1.0.now k
+    → write-file-reads.Post κs a x e → (k : ℕ) → x ≡ Ok k → FileIn a.0.now a.1.1.0.now e.1.1.0.now k
 unfolding written_said
 write_file_good κs a x e p k l =
     let w = accepts a.0.now (length a.1.0.now) a.1.1.0.now k p.1.1.1 (sym p.0 ∙ ap written_said l) in
@@ -57,7 +57,7 @@ write_file_good κs a x e p k l =
 pub write_file_same :
     (κs : Lfts 3) (a : Dens κs write-file-kinds.ps) (x : (res_t write-file-kinds.r κs).Denot) (e : AtExit (ended_of 3 write-file-kinds.ps write-file-kinds.r) κs)
     (λs : Lfts 3) (b : Dens λs write-file-kinds.ps) (y : (res_t write-file-kinds.r λs).Denot) (f : AtExit (ended_of 3 write-file-kinds.ps write-file-kinds.r) λs)
-    → write-file-reads.Post κs a x e → write-file-reads.Post λs b y f → (k l : ℕ) → x ≡ Length k → y ≡ Length l
+    → write-file-reads.Post κs a x e → write-file-reads.Post λs b y f → (k l : ℕ) → x ≡ Ok k → y ≡ Ok l
     → (take k e.1.1.0.now ≡ take l f.1.1.0.now) ↔ (map unmeasured (meanings_in a.0.now) ≡ map unmeasured (meanings_in b.0.now))
 write_file_same κs a x e λs b y f p q k l u v =
     let g = write_file_good κs a x e p k u in

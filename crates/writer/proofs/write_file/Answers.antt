@@ -27,8 +27,8 @@ returns-then-work-n c =
     let w = at_words a.tape.now (length a.work.now) a.out.now c.in-Whole.n (counted _ c.check_tape.ensures c.in-Whole.is) (omega (arith, c.if-work-n.true)) in
     record { result_value = w.0; out_after = w.1; work_unchanged = refl; bytes = bytes_of_law a.tape.now (search rules) }
 
-pub slice_bounds-write_events-end-in-Whole : goal.slice_bounds-write_events-end-in-Whole
-slice_bounds-write_events-end-in-Whole c = sym (length-take-le _ _ (omega (arith, c.if-work-n.false)))
+pub slice_bounds-write_events-end-2 : goal.slice_bounds-write_events-end-2
+slice_bounds-write_events-end-2 c = sym (length-take-le _ _ (omega (arith, c.if-work-n.false)))
 
 pub invariant_of-write_events : goal.invariant_of-write_events
 invariant_of-write_events c =
@@ -39,8 +39,8 @@ pub write_events-requires : goal.write_events-requires
 write_events-requires c = length-take-le _ _ (omega (arith, c.if-work-n.false))
 
 -- the part of the words that is lent has eight for each event
-pub returns-else-work-n : goal.returns-else-work-n
-returns-else-work-n c =
+pub returns : goal.returns
+returns c =
     let a = c.args in
     let n = c.in-Whole.n in
     let w = c.write_events in

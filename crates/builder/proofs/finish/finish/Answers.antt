@@ -2,6 +2,7 @@
 use mathlib.Core.Path.{refl, sym}
 use borrow.Author.Tests.{lt-ltb, le-ltb}
 use lib.Seq.{length-take-le}
+use Rattle.writer.specs.Write.{written_said}
 use Rattle.builder.specs.Finish.{finished_said, finish_of, finish_output, finish_used}
 use Rattle.builder.proofs.finish.finish.Goals as goal
 
@@ -14,8 +15,16 @@ returns-then-tape-held c =
 pub slice_bounds-write_file-end : goal.slice_bounds-write_file-end
 slice_bounds-write_file-end c = sym (length-take-le _ _ c.if-tape-held.false)
 
-pub returns : goal.returns
-unfolding finished_said finish_of finish_output finish_used
-returns c =
+pub returns-in-Ok : goal.returns-in-Ok
+unfolding finished_said finish_of finish_output finish_used written_said
+returns-in-Ok c =
     let e = le-ltb _ _ c.if-tape-held.false in
-    (record { result_value = rw e c.write_file.ensures.result_value; out_after = rw e c.write_file.ensures.out_after; work_unchanged = rw e c.write_file.ensures.work_unchanged })
+    let w = rw c.in-Ok.is at c.write_file.ensures.result_value in
+    (record { result_value = rw e w; out_after = rw e c.write_file.ensures.out_after; work_unchanged = rw e c.write_file.ensures.work_unchanged })
+
+pub returns-in-Err : goal.returns-in-Err
+unfolding finished_said finish_of finish_output finish_used
+returns-in-Err c =
+    let e = le-ltb _ _ c.if-tape-held.false in
+    let w = rw c.in-Err.is at c.write_file.ensures.result_value in
+    (record { result_value = rw e w; out_after = rw e c.write_file.ensures.out_after; work_unchanged = rw e c.write_file.ensures.work_unchanged })

@@ -43,16 +43,15 @@ returns c =
     let x : Meaning = meaning_of c.in-Some.event a.bytes.now in
     let e = le-ltb _ _ c.if-builder-lt-WORDS.false in
     let m = meant (goal.at.returns c).After-event_for (Some c.in-Some.event) c.in-Some.is in
-    let l : c.load.result ≡ builder_in w = loaded w e c.load.ensures in
-    let b = c.value-built.result in
+    let l : c.load-state.result ≡ builder_in w = loaded w e c.load-state.ensures in
     let n = length t in
     record {
-      value = rw (e, m) (c.answered.ensures ∙ ap numbers_by (c.value-built.ensures.answer_value ∙ ap (λ (y : Builder). build_of y n x) l));
+      value = rw (e, m) (c.answered.ensures ∙ ap numbers_by (c.value-answer.ensures.answer_value ∙ ap (λ (y : Builder). build_of y n x) l));
       builder_after =
           rw (e, m)
           (c.keep.ensures ∙
-          ap (λ (y : Said). words_by y w b.builder) c.value-built.ensures.answer_value ∙
-          ap (λ (y : Builder). words_by (build_of c.load.result n x) w y) c.value-built.ensures.builder_value ∙
+          ap (λ (y : Said). words_by y w c.value-answer.new.builder) c.value-answer.ensures.answer_value ∙
+          ap (λ (y : Builder). words_by (build_of c.load-state.result n x) w y) c.value-answer.ensures.builder_after ∙
           ap (λ (y : Builder). words_by (build_of y n x) w (builder_after y n x)) l);
-      tape_after = rw (e, m) (c.value-built.ensures.tape_after ∙ ap (λ (y : Builder). tape_after y t x) l);
+      tape_after = rw (e, m) (c.value-answer.ensures.tape_after ∙ ap (λ (y : Builder). tape_after y t x) l);
     }

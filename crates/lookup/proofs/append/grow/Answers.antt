@@ -10,7 +10,7 @@ use lib.ListN.{length, take, drop}
 use Rattle.tape.specs.Seven.{seven}
 use Rattle.tape.specs.SevenLaws.{seven_few}
 use Rattle.lookup.specs.Append.{grown}
-use Rattle.lookup.specs.declared.append.Added.TheVariants.{Held}
+use Rattle.std.specs.Prelude.{Ok}
 use Rattle.lookup.proofs.Growing.{moved_is, grow_not, grow_held, grow_all}
 use Rattle.lookup.proofs.append.grow.Goals as goal
 use Rattle.lookup.proofs.append.grow.Goals.{After-groups-length_end, Else-lacks_room}
@@ -106,7 +106,7 @@ returns c =
     let n : g.result - 1 ≡ length (count x) = omega (arith, g.ensures.value) in
     let o : h.result - 1 ≡ length (measure x) = omega (arith, h.ensures.value) in
     record {
-      value = ap Held (sum x) ∙ grow_held m c.args.held c.args.first (up x) (count x) (measure x) c.args.key.now c.requires.within c.requires.inside (is_up x) (fits y);
+      value = ap Ok (sum x) ∙ grow_held m c.args.held c.args.first (up x) (count x) (measure x) c.args.key.now c.requires.within c.requires.inside (is_up x) (fits y);
       path_after = grow_all m c.args.held c.args.first (up x) (count x) (measure x) c.args.key.now c.requires.within c.requires.inside (is_up x) (fits y) _ _ _ _ _ _ _ _
           (c.copy_within.ensures.after ∙ moved_is m c.args.first c.args.held (up x) c.requires.within (rises y))
           c.write_bytes.ensures

@@ -8,18 +8,16 @@ use Rattle.grammar.specs.Said.{whole, refused_at, checked_said}
 use Rattle.lookup.specs.Find.{found_said}
 use Rattle.lookup.proofs.FindLaws.{find_refused, find_whole, check_rest}
 use Rattle.lookup.proofs.find.find.Goals as goal
-use Rattle.lookup.proofs.find.find.Lts as lts
-use Rattle.lookup.proofs.find.find.Reads as reads
-use Rattle.lookup.proofs.find.find.Tie as tie
+use Rattle.lookup.proofs.find.find.Goals.{In-Whole}
 
 -- the check finds the tape whole
-checked : (x : lts.Past-After-enum_told tie.the-claims reads.Pre reads.Post tie.handed_clauses) → check_of x.args.tape.now ≡ whole x.in-Whole.field-0
+checked : (x : In-Whole) → check_of x.args.tape.now ≡ whole x.in-Whole.field-0
 unfolding checked_said
 checked x = sym x.check_tape.ensures ∙ ap checked_said x.in-Whole.is
 
 pub find_in-requires : goal.find_in-requires
 find_in-requires c =
-    check_rest _ _ (bytes_of_law c.args.tape.now (λ (i : ℕ). omega (arith, c.type_inv.tape i))) (checked c.before)
+    check_rest _ _ (bytes_of_law c.args.tape.now (λ (i : ℕ). omega (arith, c.type_inv.tape i))) (checked (goal.at.find_in-requires c).In-Whole)
 
 pub returns-in-Refused : goal.returns-in-Refused
 unfolding found_said checked_said refused_at
@@ -28,4 +26,4 @@ returns-in-Refused c =
 
 pub returns-in-Whole : goal.returns-in-Whole
 returns-in-Whole c =
-    (record { result_value = c.find_in.ensures ∙ sym (find_whole _ _ _ (checked c.before.before)); bytes = bytes_of_law c.args.tape.now (λ (i : ℕ). omega (arith, c.type_inv.tape i)) })
+    (record { result_value = c.find_in.ensures ∙ sym (find_whole _ _ _ (checked (goal.at.returns-in-Whole c).In-Whole)); bytes = bytes_of_law c.args.tape.now (λ (i : ℕ). omega (arith, c.type_inv.tape i)) })

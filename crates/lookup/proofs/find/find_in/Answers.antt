@@ -1,6 +1,6 @@
 -- `find_in`: the path is judged, then gone along.
 use mathlib.Core.Path.{sym, ◌∙◌}
-use Rattle.lookup.specs.Find.{found_said, part_said}
+use Rattle.lookup.specs.Find.{found_said}
 use Rattle.lookup.proofs.FindLaws.{by_none, by_count, by_bad}
 use Rattle.lookup.proofs.find.find_in.Goals as goal
 
@@ -16,12 +16,6 @@ returns-then-not-has_keys c =
 pub find_under-requires : goal.find_under-requires
 find_under-requires c = (c.requires, sym c.has_keys.ensures ∙ c.if-not-has_keys.false)
 
-pub returns-in-Some-find_under : goal.returns-in-Some-find_under
-unfolding found_said part_said
-returns-in-Some-find_under c =
-    (rw c.in-Some-find_under.is at c.find_under.ensures) ∙ by_count _ _ _ c.in-Some.count c.in-Some.first (sym c.number_at.ensures ∙ c.in-Some.is)
-
-pub returns-in-None : goal.returns-in-None
-unfolding found_said part_said
-returns-in-None c =
-    (rw c.in-None.is at c.find_under.ensures) ∙ by_count _ _ _ c.in-Some.count c.in-Some.first (sym c.number_at.ensures ∙ c.in-Some.is)
+pub returns : goal.returns
+unfolding found_said
+returns c = c.find_under.ensures ∙ by_count _ _ _ c.in-Some.count c.in-Some.first (sym c.number_at.ensures ∙ c.in-Some.is)

@@ -1,5 +1,5 @@
 -- `are_plain`: what was seen, and what is left, decide.
-use Rattle.std.proofs.Common.{refl, ◌∙◌, arith, drop_of_length-le}
+use Rattle.std.proofs.Common.{◌∙◌, arith, drop_of_length-le}
 use mathlib.Core.Bool.{and-true, and_assoc}
 use Rattle.utf.specs.Unicode.{is_ascii}
 use Rattle.utf.specs.Bounds.{below_all}
@@ -12,9 +12,6 @@ returns-in-Some c =
     let part = c.args.part.now in
     let w = c.in-Some.ensures.cases in
     rw (c.top_bits.ensures, w.same) (rw w.long at (tops_ascii part (below_all 256 part (λ i. omega (arith, c.type_inv.part i)))))
-
-pub loop-byte-init : goal.loop-byte-init
-loop-byte-init c = refl
 
 pub loop-byte-preserved : goal.loop-byte-preserved
 unfolding is_ascii

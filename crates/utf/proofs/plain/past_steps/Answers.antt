@@ -1,16 +1,8 @@
 -- `past_steps`: what is left stands behind a part of the run.
-use Rattle.std.proofs.Common.{refl, sym, ◌∙◌, arith, length-drop}
+use Rattle.std.proofs.Common.{sym, ◌∙◌}
 use Rattle.utf.specs.PlainLaws.{run_plain}
 use Rattle.utf.proofs.Runs.{behind_more}
 use Rattle.utf.proofs.plain.past_steps.Goals as goal
-
-pub loop-part-init : goal.loop-part-init
-loop-part-init c = (0, omega arith, refl)
-
-pub loop-part-smaller : goal.loop-part-smaller
-loop-part-smaller c =
-    let p = c.in-Some.ensures.cases in
-    rw p.2 (omega (arith, length-drop c.args.step c.loop-part.rest.now, p.0))
 
 pub loop-part-preserved : goal.loop-part-preserved
 loop-part-preserved c =

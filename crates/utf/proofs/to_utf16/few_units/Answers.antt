@@ -10,9 +10,6 @@ at_byte : (s : List ℕ) (i : ℕ) → i < length s → units_in (drop i s) ≡ 
 unfolding units_in
 at_byte s i h = rw (left_at s i h)
 
-pub loop-byte-init : goal.loop-byte-init
-loop-byte-init c = omega arith
-
 pub overflow_add-count : goal.overflow_add-count
 overflow_add-count c =
     let s = c.args.part.now in

@@ -7,9 +7,6 @@ use Rattle.utf.specs.Unicode.{utf16, scalars8}
 use Rattle.utf.specs.ToUtf16Walk.{units_few}
 use Rattle.utf.proofs.to_utf16.lacks_units.Goals as goal
 
-pub returns-then-room-s : goal.returns-then-room-s
-returns-then-room-s c = rw c.count_units.ensures
-
 pub returns-else-room-s : goal.returns-else-room-s
 returns-else-room-s c =
     let a = c.args in

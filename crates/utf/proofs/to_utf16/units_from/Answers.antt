@@ -7,7 +7,6 @@ use borrow.Author.Tests.{lt-ltb, le-ltb, lt-leb, le-leb}
 use lib.Dec.{ltb, leb}
 use mir.Val.{bool_byte}
 use Rattle.utf.specs.ToUtf16.{units_from}
-use Rattle.utf.specs.ToUtf16Walk.{from_le}
 use Rattle.utf.proofs.to_utf16.units_from.Goals as goal
 
 sum : (b : ℕ) → bool_byte (ltb b 0x80) + bool_byte (leb 0xC0 b) + bool_byte (leb 0xF0 b) ≡ units_from b
@@ -29,12 +28,6 @@ sum b =
                 ]
           ]
     ]
-
-pub overflow_add-result : goal.overflow_add-result
-overflow_add-result c = omega (arith, sum c.args.b, from_le c.args.b)
-
-pub overflow_add-result-2 : goal.overflow_add-result-2
-overflow_add-result-2 c = omega (arith, sum c.args.b, from_le c.args.b)
 
 pub returns : goal.returns
 returns c = sum c.args.b

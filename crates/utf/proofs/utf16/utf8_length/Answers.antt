@@ -13,30 +13,6 @@ units-init c = (omega arith, omega arith, length_start _)
 pub returns-then-s-i : goal.returns-then-s-i
 returns-then-s-i c = sym (c.units.invariant.2 ∙ count_end _ _ _ c.if-s-i.true)
 
-pub overflow_sub-s : goal.overflow_sub-s
-overflow_sub-s c = omega arith
-
-pub unit_at-unit-requires : goal.unit_at-unit-requires
-unit_at-unit-requires c = omega arith
-
-pub overflow_add-i : goal.overflow_add-i
-overflow_add-i c = omega arith
-
-pub overflow_sub-s-in-55296-to-56319 : goal.overflow_sub-s-in-55296-to-56319
-overflow_sub-s-in-55296-to-56319 c = omega arith
-
-pub unit_at-next-requires : goal.unit_at-next-requires
-unit_at-next-requires c = omega arith
-
-pub overflow_add-i-in-56320-to-57343-next : goal.overflow_add-i-in-56320-to-57343-next
-overflow_add-i-in-56320-to-57343-next c = omega arith
-
-pub overflow_add-bytes : goal.overflow_add-bytes
-overflow_add-bytes c = omega arith
-
-pub units-smaller-then-unit-lt56320 : goal.units-smaller-then-unit-lt56320
-units-smaller-then-unit-lt56320 c = omega arith
-
 pub units-preserved-then-unit-lt56320 : goal.units-preserved-then-unit-lt56320
 units-preserved-then-unit-lt56320 c = (
   omega arith,
@@ -46,9 +22,6 @@ units-preserved-then-unit-lt56320 c = (
 
 pub overflow_add-bytes-in_default : goal.overflow_add-bytes-in_default
 overflow_add-bytes-in_default c = omega (arith, c.width_of-bytes.ensures, utf8_size c.unit_at-unit.result)
-
-pub units-smaller : goal.units-smaller
-units-smaller c = omega arith
 
 pub units-preserved : goal.units-preserved
 units-preserved c =

@@ -10,10 +10,10 @@ pub returns-then-s-i : goal.returns-then-s-i
 unfolding next_in
 returns-then-s-i c = rw (drop_of_length-le c.args.s.now c.if-s-i.true)
 
-pub returns-then-low-s : goal.returns-then-low-s
+pub returns-then-range-s : goal.returns-then-range-s
 unfolding next_in within
-returns-then-low-s c = let a = c.args in rw (left_at a.s.now a.i c.if-s-i.false, le-leb _ _ c.if-low-s.true)
+returns-then-range-s c = let a = c.args in rw (left_at a.s.now a.i c.if-s-i.false, le-leb _ _ c.if-range-s.true)
 
-pub returns-else-low-s : goal.returns-else-low-s
+pub returns-else-range-s : goal.returns-else-range-s
 unfolding next_in within
-returns-else-low-s c = let a = c.args in rw (left_at a.s.now a.i c.if-s-i.false, lt-leb _ _ c.if-low-s.false)
+returns-else-range-s c = let a = c.args in rw (left_at a.s.now a.i c.if-s-i.false, lt-leb _ _ c.if-range-s.false)

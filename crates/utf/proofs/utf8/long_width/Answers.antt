@@ -14,7 +14,7 @@ pub returns : goal.returns
 returns c =
     let s = c.args.s.now in
     let b = get_or s 0 0 in
-    let second : c.follows.result ≡ next_in (low_after b to high_after b) (drop 1 s) = rw (c.second_of-low.ensures.0, c.second_of-low.ensures.1) at c.follows.ensures in
+    let second : c.follows.result ≡ next_in (low_after b to high_after b) (drop 1 s) = rw (c.second_of.ensures.0, c.second_of.ensures.1) at c.follows.ensures in
     let two : c.if-follows.value ≡ (next_in (low_after b to high_after b) (drop 1 s) && next_in later (drop 2 s)) =
     elim c.if-follows.branch [
       | then-follows w ↦ rw (← second, w.if-follows.true) (w.value-is ∙ w.follows-then-follows.ensures)

@@ -20,7 +20,7 @@ pub returns : goal.returns
 returns c =
     let s = c.args.s.now in
     let b = get_or s 0 0 in
-    let second : c.follows-2.result ≡ next_in (low_after b to high_after b) (drop 1 s) = rw (c.second_of-low.ensures.0, c.second_of-low.ensures.1) at c.follows-2.ensures in
+    let second : c.follows-2.result ≡ next_in (low_after b to high_after b) (drop 1 s) = rw (c.second_of.ensures.0, c.second_of.ensures.1) at c.follows-2.ensures in
     let all : c.if-follows.then_some ≡ follow s 1 (low_after b to high_after b ∷ later ∷ []) =
     elim c.if-follows.branch [
       | then-follows w ↦ rw (← second, w.if-follows.true, and-true) (w.then_some-is ∙ w.follows-then-follows.ensures)

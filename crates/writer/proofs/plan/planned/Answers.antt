@@ -1,5 +1,5 @@
 -- `planned` computes the plan; no sum passes 64 bits, since sizes are 8 at most.
-use Rattle.std.proofs.Common.{ℕ, ◌+◌, ◌*◌, refl, ap, arith}
+use Rattle.std.proofs.Common.{arith}
 use Rattle.writer.specs.PlanLaws.{times_size}
 use Rattle.writer.proofs.plan.planned.Goals as goal
 
@@ -20,10 +20,3 @@ overflow_add-length c =
 pub overflow_add-length-2 : goal.overflow_add-length-2
 overflow_add-length-2 c =
     omega (arith, times_size c.args.sums.members c.size_for-width.result _ c.size_for-width.ensures, times_size c.args.count c.size_for.result _ c.size_for.ensures)
-
-pub returns : goal.returns
-returns c =
-    let a = c.args in
-    let width = c.size_for-width.result in
-    let table = 8 + a.sums.bytes + a.sums.members * width in
-    (refl, c.size_for-width.ensures, refl, ap (λ (i : ℕ). table + a.count * i + 32) c.size_for.ensures)
