@@ -60,7 +60,8 @@ fn one<W: Write>(to: &mut W, digits: &[u8]) -> io::Result<()> {
     }
     match digits {
         [b'P', ..] => say_plainly(to, digits, &mut file, &mut scratch, &mut out),
-        [b'A'..=b'Z', ..] => forged(to, digits, &mut file, &mut scratch, &mut out),
+        // what stands between the digits and the small letters: capitals, and the signs around them
+        [b':'..=b'`', ..] => forged(to, digits, &mut file, &mut scratch, &mut out),
         _ => {
             let n = decode(digits, &mut file);
             block(to, &file[..n], &mut scratch, &mut out)
