@@ -39,7 +39,7 @@ pub fn start(
     ensures builder_after { builder.new ≡ builder_after builder.old (length tape.old) (meaning_of (start_of container given) []) }
     ensures sound { Sound (meaning_of (start_of container given) []) }
 {
-    value(builder, tape, start_of(container, given), b"")
+    build(builder, tape, start_of(container, given), b"")
 }
 
 // The end of the innermost container.
@@ -49,7 +49,7 @@ pub fn end(builder: &mut Builder, tape: &mut [u8]) -> Result<usize, BuildError>
     ensures tape_after { tape.new ≡ tape_after builder.old tape.old close }
     ensures builder_after { builder.new ≡ builder_after builder.old (length tape.old) close }
 {
-    value(builder, tape, Event::EndCollection, b"")
+    build(builder, tape, Event::EndCollection, b"")
 }
 
 #[tactic(auto, unfolding(crate::specs::Build::start_of))]
@@ -62,9 +62,23 @@ fn start_of(container: Container, given: Option<u64>) -> Event
     }
 }
 
-// A value, with the bytes of data or text. No number says that an event is no value: a start or an end is taken as the other two take it. The
-// builder goes by its state and never reads what is held.
+// A value, with the bytes of data or text. No number says that an event is no value: a start or an end is taken as the other two take it.
 pub fn value(
+    builder: &mut Builder,
+    tape: &mut [u8],
+    event: Event,
+    bytes: &[u8],
+) -> Result<usize, BuildError>
+    ensures answer_value { answer_said result ≡ build_of builder.old (length tape.old) (meaning_of event bytes.now) }
+    ensures tape_after { tape.new ≡ tape_after builder.old tape.old (meaning_of event bytes.now) }
+    ensures builder_after { builder.new ≡ builder_after builder.old (length tape.old) (meaning_of event bytes.now) }
+    ensures sound { Sound (meaning_of event bytes.now) }
+{
+    build(builder, tape, event, bytes)
+}
+
+// The builder goes by its state and never reads what is held.
+fn build(
     builder: &mut Builder,
     tape: &mut [u8],
     event: Event,

@@ -23,6 +23,10 @@ use Rattle.exports.proofs.numbers.Numbers.plain.Kinds as plain-kinds
 use Rattle.exports.proofs.numbers.Numbers.plain.Reads as plain-reads
 use Rattle.exports.proofs.numbers.Numbers.refused.Kinds as refused-kinds
 use Rattle.exports.proofs.numbers.Numbers.refused.Reads as refused-reads
+use Rattle.exports.proofs.numbers.first_number.Kinds as first-number-kinds
+use Rattle.exports.proofs.numbers.first_number.Reads as first-number-reads
+use Rattle.exports.proofs.numbers.second_number.Kinds as second-number-kinds
+use Rattle.exports.proofs.numbers.second_number.Reads as second-number-reads
 use Rattle.exports_find.proofs.find.zm_find.Kinds as zm-find-kinds
 use Rattle.exports_find.proofs.find.zm_find.Reads as zm-find-reads
 use Rattle.exports_find.proofs.path_append.zm_path_append.Kinds as zm-path-append-kinds
@@ -46,6 +50,12 @@ plain_one κs a x y e f p q = (p ∙ sym q, refl)
 
 refused_one : One 0 refused-kinds.ps refused-kinds.r refused-reads.Post (Unit {0}) (λ κs e. tt)
 refused_one κs a x y e f p q = (p ∙ sym q, refl)
+
+first_number_one : One 0 first-number-kinds.ps first-number-kinds.r first-number-reads.Post (Unit {0}) (λ κs e. tt)
+first_number_one κs a x y e f p q = (p ∙ sym q, refl)
+
+second_number_one : One 0 second-number-kinds.ps second-number-kinds.r second-number-reads.Post (Unit {0}) (λ κs e. tt)
+second_number_one κs a x y e f p q = (p ∙ sym q, refl)
 
 zm_path_append_one : One 2 zm-path-append-kinds.ps zm-path-append-kinds.r zm-path-append-reads.Post (List ℕ) (λ κs e. e.0.now)
 zm_path_append_one κs a x y e f p q = (p.0 ∙ sym q.0, p.1.0 ∙ sym q.1.0)

@@ -36,15 +36,33 @@ impl Numbers {
           found = second_number (kinds_of refusal);
         } }
     {
-        let Refusal::UnexpectedEventType(expected, found) = refusal else {
-            return Numbers::plain(number_of(refusal), place);
-        };
         Numbers {
             code: number_of(refusal),
             place,
-            expected: kind_number(expected),
-            found: kind_number(found),
+            expected: first_number(refusal),
+            found: second_number(refusal),
         }
+    }
+}
+
+// The numbers of the kinds that a refusal expected and found; 0 of one that names none.
+#[tactic(auto, unfolding(crate::specs::Write::first_number, grammar::specs::Said::kinds_of))]
+pub fn first_number(refusal: Refusal) -> u32
+    ensures { result ≡ first_number (kinds_of refusal) }
+{
+    match refusal {
+        Refusal::UnexpectedEventType(expected, _) => kind_number(expected),
+        _ => 0,
+    }
+}
+
+#[tactic(auto, unfolding(crate::specs::Write::second_number, crate::specs::Write::first_number, grammar::specs::Said::kinds_of))]
+pub fn second_number(refusal: Refusal) -> u32
+    ensures { result ≡ second_number (kinds_of refusal) }
+{
+    match refusal {
+        Refusal::UnexpectedEventType(_, found) => kind_number(found),
+        _ => 0,
     }
 }
 

@@ -5,6 +5,7 @@ ghost use Rattle.writer.specs.Write.{written_said, write_of, output_of, used_of}
 ghost use Rattle.exports.specs.Write.{write_code, write_value, expected_number, found_number, written_numbers};
 
 use crate::numbers::Numbers;
+pub use crate::numbers::{first_number, second_number};
 use writer::answer::WriteError;
 use writer::write_file;
 

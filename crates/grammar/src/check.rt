@@ -5,7 +5,7 @@ ghost use Rattle.grammar.specs.Said.{checked_said};
 
 use crate::answer::{Checked, Refusal};
 use crate::around::Around;
-use crate::turn::Due;
+use crate::turn::{Due, is_nothing};
 use crate::way::{Way, way_at};
 use event::limits::MAX_LENGTH;
 
@@ -35,7 +35,7 @@ pub fn check_tape(tape: &[u8]) -> Checked
         events += 1;
         at = gone.next;
     }
-    if due == Due::Nothing {
+    if is_nothing(due) {
         return Checked::Whole(events);
     }
     Checked::Refused(Refusal::IncompleteRoot, tape.len() as u64)

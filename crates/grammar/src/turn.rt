@@ -1,7 +1,7 @@
 // What an event does where it comes.
 ghost use Rattle.std.specs.Prelude.{[], ◌≡◌};
 ghost use Rattle.event.specs.Meaning.{meaning_of};
-ghost use Rattle.grammar.specs.Turn.{after_of, unexpected_of, unless_key, end_turn, text_turn, turn_of};
+ghost use Rattle.grammar.specs.Turn.{is_nothing, after_of, unexpected_of, unless_key, end_turn, text_turn, turn_of};
 
 use crate::answer::{EventKind, Refusal};
 use event::Event;
@@ -47,6 +47,13 @@ pub(crate) fn turn_of(due: Due, event: Event) -> Turn
     }
 }
 
+// Whether nothing may come any more.
+pub(crate) fn is_nothing(due: Due) -> bool
+    ensures { result ≡ is_nothing due }
+{
+    due == Due::Nothing
+}
+
 // What is due behind a value or a whole container.
 #[tactic(auto, unfolding(crate::specs::Turn::after_of))]
 pub(crate) fn after(due: Due) -> Due
@@ -88,11 +95,11 @@ fn end_turn(due: Due) -> Turn
 }
 
 // Text is a value and a key.
-#[tactic(auto, unfolding(crate::specs::Turn::text_turn, crate::specs::Turn::is_nothing))]
+#[tactic(auto, unfolding(crate::specs::Turn::text_turn))]
 fn text_turn(due: Due) -> Turn
     ensures { result ≡ text_turn due }
 {
-    if due == Due::Nothing {
+    if is_nothing(due) {
         return Turn::Stop(Refusal::TrailingEvents);
     }
     Turn::Pass(after(due))

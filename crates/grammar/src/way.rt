@@ -4,7 +4,7 @@ ghost use Rattle.event.specs.Meaning.{meaning_of};
 ghost use Rattle.grammar.specs.Way.{way_of, barred_at, way_at};
 
 use crate::answer::{EventKind, Refusal};
-use crate::turn::{Due, Turn, after, turn_of};
+use crate::turn::{Due, Turn, after, is_nothing, turn_of};
 use event::Event;
 use event::limits::MAX_OPEN;
 use tape::step::quick_step;
@@ -56,7 +56,7 @@ pub fn way_of(due: Due, depth: usize, event: Event) -> Way
 pub(crate) fn way_at(tape: &[u8], at: usize, due: Due, depth: usize) -> Gone
     ensures { result ≡ way_at tape.now at due depth }
 {
-    if due == Due::Nothing {
+    if is_nothing(due) {
         return barred(Refusal::TrailingEvents, at);
     }
     let Some(item) = quick_step(tape, at) else {

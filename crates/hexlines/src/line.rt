@@ -18,10 +18,11 @@ pub fn after(s: &[u8], at: usize) -> usize
     at.saturating_add(1).min(s.len())
 }
 
-// The decimal number that stands at a place; 0 where none does. It stays at the top rather than pass it.
+// The decimal number that stands at a place; 0 where none does. It stays at the top rather than pass it. What is in front of the place is cut off
+// first: `skip` would step over it, byte by byte, at each call.
 pub fn number(s: &[u8], from: usize) -> u64 {
-    s.iter()
-        .skip(from)
+    s[from.min(s.len())..]
+        .iter()
         .take_while(|b| b.is_ascii_digit())
         .fold(0, |n: u64, b| {
             n.saturating_mul(10)

@@ -34,8 +34,8 @@ pub fn find_part<'a>(tape: &'a [u8], path: &[u8]) -> &'a [u8]
             let end = part.start + part.length;
             &tape[part.start..end]
         }
-        Ok(None) => &[],
-        Err(_) => &[],
+        Ok(None) => &tape[..0],
+        Err(_) => &tape[..0],
     }
 }
 

@@ -1,7 +1,7 @@
 -- Text changed from UTF-16 on its way onto the tape.
 use mathlib.Core.Bool.{true, false}
 use mathlib.Core.List.{List, [], ◌∷◌, ◌++◌, append-nil, append_assoc}
-use mathlib.Core.Path.{◌≡◌, sym, ap, ◌∙◌}
+use mathlib.Core.Path.{◌≡◌, refl, sym, ap, ◌∙◌}
 use Prim.Native.Nat.{ℕ, suc, ◌+◌, ◌-◌, ◌≤◌, ◌<◌}
 use native.Mathlib.Omega.{arith}
 use borrow.Author.Tests.{le-ltb}
@@ -9,10 +9,12 @@ use borrow.Rule.Slice.PartMut.{put_mid, post_of, Post-is}
 use lib.Dec.{ltb}
 use lib.ListN.{length, take, drop, set, length-append, length-drop, length-set, drop_of_length-le}
 use lib.Seq.{sets, length-sets, sets-eq, take_all, drop-drop}
+use Rattle.number.specs.Either.{either}
 use Rattle.utf.specs.Changed.{changed_to}
 use Rattle.utf.specs.Unicode.{is_utf16, to_utf8}
 use Rattle.utf.proofs.Writing.{sets_append}
-use Rattle.tape.specs.Append.{Said, held, refused, utf16_of, utf16_to}
+use Rattle.event.specs.Meaning.{text}
+use Rattle.tape.specs.Append.{Said, held, refused, fits, put_to, utf16_of, utf16_to}
 use Rattle.tape.proofs.AppendLaws.{Puts, put_none, put_room}
 use Rattle.tape.specs.Code.{bytes_for}
 use Rattle.tape.specs.Seven.{seven}
@@ -60,3 +62,10 @@ module _ (tape : List ℕ) (at : ℕ) (s : List ℕ) where
         let p : put_mid start (length l - start) l v ≡ sets (set tape at 0x09) (at + 1) (seven (length now) ++ now) =
         text_behind l start now v (omega (arith, k)) (rw is at h) ∙ rw (e, f) (sym (sets_append (seven (length now)) now (set tape at 0x09) (at + 1))) in
         is_put (put_room tape at 0x09 (seven (length now) ++ now) (omega (arith, a)) (omega (arith, a)) p)
+
+-- the tape is as long as it was
+pub as_long : (tape : List ℕ) (at : ℕ) (s : List ℕ) → length (utf16_to tape at s) ≡ length tape
+unfolding utf16_to put_to
+as_long tape at s =
+    either (λ (l : List ℕ). length l ≡ length tape) (is_utf16 s) _ _
+    (λ h. either (λ (l : List ℕ). length l ≡ length tape) (fits tape at (bytes_for (text (to_utf8 s)))) _ _ (λ k. length-sets tape at (bytes_for (text (to_utf8 s)))) (λ k. refl)) (λ h. refl)

@@ -6,6 +6,7 @@ ghost use Rattle.tape.specs.Kinds.{start_bytes};
 ghost use Rattle.tape.specs.Seven.{seven};
 
 use crate::seven::groups_in;
+use crate::unchecked::lacks_number;
 use event::{Event, Integer};
 use number::signed::magnitude;
 
@@ -49,15 +50,8 @@ fn lacks_integer(end: usize, at: usize, value: Integer) -> bool
     }
 }
 
-// Whether a kind and a number pass the end. Where the longest number fits, its groups are not counted: some 20 instructions a number less.
-pub(crate) fn lacks_number(end: usize, at: usize, n: u64) -> bool
-    ensures { result ≡ ltb end (at + (1 + length (seven n))) }
-{
-    lacks_room(end, at, 11) && lacks_room(end, at, 1 + groups_in(n))
-}
-
 // A kind, a length and so many bytes.
-pub(crate) fn lacks_bytes(end: usize, at: usize, size: usize) -> bool
+fn lacks_bytes(end: usize, at: usize, size: usize) -> bool
     ensures { result ≡ ltb end (at + (1 + length (seven size) + size)) }
 {
     let head = 1 + groups_in(size as u64);

@@ -3,11 +3,14 @@ ghost use Rattle.std.specs.Prelude.{◌≡◌, ◌+◌, ◌≤◌, length};
 ghost use Rattle.std.proofs.lemmas.List.Edits.{sets};
 ghost use Rattle.tape.specs.Seven.{seven};
 
-// How many groups a number has.
+// How many groups a number has. Most have one.
 pub(crate) fn groups_in(n: u64) -> usize
     ensures { result ≡ length (seven n) }
 {
-    n.max(1).ilog2() as usize / 7 + 1
+    if n < 0x80 {
+        return 1;
+    }
+    n.ilog2() as usize / 7 + 1
 }
 
 // Writes a number and answers the place after it.

@@ -122,7 +122,9 @@ fn data_at(tape: &[u8], length: Option<(u64, usize)>) -> Option<Item>
     with_bytes(Event::Data, start, n as usize)
 }
 
-// Text is the same, and well-formed UTF-8.
+// Text is the same, and well-formed UTF-8. It is always put into its callers: called, it would be lent the number and hand out the item, both
+// through memory.
+#[inline(always)]
 fn text_at(tape: &[u8], length: Option<(u64, usize)>) -> Option<Item>
     ensures { result ≡ text_in tape.now length }
 {

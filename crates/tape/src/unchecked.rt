@@ -1,5 +1,5 @@
 // What leaves a check to its caller: text and dates aren't looked at, and kinds are taken as they are.
-ghost use Rattle.std.specs.Prelude.{[], ◌∷◌, ◌++◌, ◌≡◌, ◌<◌, length};
+ghost use Rattle.std.specs.Prelude.{[], ◌∷◌, ◌++◌, ◌≡◌, ◌+◌, ◌<◌, length, ltb};
 ghost use Rattle.event.specs.Meaning.{meaning_of};
 ghost use Rattle.number.specs.Be.{bytes_of};
 ghost use Rattle.tape.specs.Append.{said, put_of, put_to};
@@ -10,8 +10,8 @@ ghost use Rattle.tape.specs.Kinds.{start_bytes};
 
 use crate::append::{Appended, put_boolean, put_integer};
 use crate::end::{after_bytes, end_by_kind};
-use crate::room::{lacks_bytes, lacks_number, lacks_room};
-use crate::seven::write_number;
+use crate::room::lacks_room;
+use crate::seven::{groups_in, write_number};
 use crate::value::length_at;
 use event::Event;
 use event::real::float_bits;
@@ -76,6 +76,13 @@ pub fn put_number(tape: &mut [u8], held: usize, kind: u8, n: u64) -> Appended
     Appended::Held(write_number(tape, held + 1, n))
 }
 
+// Whether a kind and a number pass the end. Where the longest number fits, its groups are not counted: some 20 instructions a number less.
+pub(crate) fn lacks_number(end: usize, at: usize, n: u64) -> bool
+    ensures { result ≡ ltb end (at + (1 + length (seven n))) }
+{
+    lacks_room(end, at, 11) && lacks_room(end, at, 1 + groups_in(n))
+}
+
 // A kind and 8 bytes, the high one first.
 pub fn put_eight(tape: &mut [u8], held: usize, kind: u8, bits: u64) -> Appended
     ensures result_value { said result ≡ put_of tape.old held (kind ∷ bytes_of 8 bits) }
@@ -96,16 +103,18 @@ pub fn put_bytes(tape: &mut [u8], held: usize, kind: u8, bytes: &[u8]) -> Append
     ensures result_value { said result ≡ put_of tape.old held (kind ∷ (seven (length bytes.now) ++ bytes.now)) }
     ensures tape_after { tape.new ≡ put_to tape.old held (kind ∷ (seven (length bytes.now) ++ bytes.now)) }
 {
-    if lacks_bytes(tape.len(), held, bytes.len()) {
+    let length = bytes.len() as u64;
+    let head = 1 + groups_in(length);
+    if lacks_room(tape.len(), held, head) || lacks_room(tape.len(), held + head, bytes.len()) {
         return Appended::NoRoom(held as u64);
     }
     tape[held] = kind;
-    let start = write_number(tape, held + 1, bytes.len() as u64);
+    let start = write_number(tape, held + 1, length);
     write_bytes(tape, start, bytes);
     Appended::Held(start + bytes.len())
 }
 
-// The place after the event whose kind stands at a place; `NoEvent` where `step` is bad for another reason than text that isn't UTF-8 or
+// The place after the event whose kind stands at a place; none where `step` is bad for another reason than text that isn't UTF-8 or
 // a date that is none. A walk along a tape that has been stepped through once is quick so. Most events of a tape are text, which has its
 // own test.
 pub fn end_of(tape: &[u8], at: usize) -> Option<usize>

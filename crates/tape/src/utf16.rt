@@ -3,8 +3,8 @@ ghost use Rattle.std.specs.Prelude.{◌≡◌};
 ghost use Rattle.tape.specs.Append.{said, utf16_of, utf16_to};
 
 use crate::append::Appended;
-use crate::room::lacks_bytes;
-use crate::seven::write_number;
+use crate::room::lacks_room;
+use crate::seven::{groups_in, write_number};
 use utf::utf16::{utf8_length, utf16_to_utf8};
 
 // The text event behind the bytes that are held, in UTF-8; bytes that aren't UTF-16 are a bad event, as text that isn't UTF-8 is. It is
@@ -17,7 +17,8 @@ pub fn append_utf16(tape: &mut [u8], held: usize, utf16: &[u8]) -> Appended
         return Appended::BadEvent(held as u64);
     };
     let length = bytes as u64;
-    if lacks_bytes(tape.len(), held, bytes) {
+    let head = 1 + groups_in(length);
+    if lacks_room(tape.len(), held, head) || lacks_room(tape.len(), held + head, bytes) {
         return Appended::NoRoom(held as u64);
     }
     tape[held] = 0x09;

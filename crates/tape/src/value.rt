@@ -3,7 +3,7 @@ ghost use Rattle.std.specs.Prelude.{◌≡◌, ◌<◌};
 ghost use Rattle.tape.specs.Value.{number_at, eight_at};
 ghost use Rattle.tape.specs.ValueLoop.{Units, above};
 
-use number::be::read_be;
+use number::be::read_eight;
 
 // The number at a place, in groups of seven bits, the low group first. `unit` is what the next group counts in; in the tenth group it is 2^63.
 pub fn number_at(tape: &[u8], at: usize) -> Option<(u64, usize)>
@@ -69,6 +69,6 @@ pub(crate) fn eight_at(tape: &[u8], at: usize) -> Option<(u64, usize)>
         return None;
     }
     let next = at + 8;
-    let n = read_be(&tape[at..next])?;
+    let n = read_eight(&tape[at..next]);
     Some((n, next))
 }

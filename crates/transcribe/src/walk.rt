@@ -64,6 +64,7 @@ pub(crate) fn walk(
                 frames[top] = Frame::NONE;
                 depth = top;
                 standing = stands_in(file, layout, frames[top - 1]);
+                continue;
             }
             Due::Member(object) => match look_up(file, layout, object, place) {
                 Look::Missing => {
@@ -79,6 +80,8 @@ pub(crate) fn walk(
                     }
                     frames[top].position += 1;
                     place = offset;
+                    // each arm goes on by itself: the turns of a container's scalars are then a loop of their own, whose frame stays in registers
+                    continue;
                 }
                 Look::Container(shape, length, offset) => {
                     let number = object as u32;
@@ -105,6 +108,7 @@ pub(crate) fn walk(
                     };
                     above = above.max(object + 1);
                     place = offset;
+                    continue;
                 }
             },
         }

@@ -1,6 +1,6 @@
 -- Runs of ASCII and eight bytes, in the words of the library.
-use Rattle.std.specs.Prelude.{IsTrue, ◌↔◌, Bool, true, false, ◌≡◌, refl, List, [], ◌∷◌, ℕ, zero, suc, ◌+◌, ◌-◌, ◌≤◌, ◌<◌, leb, length, take, drop, get_or}
-use Rattle.std.proofs.Common.{sym, ◌∙◌, ap, arith, length-drop, lt-ltb, le-ltb, le-leb}
+use Rattle.std.specs.Prelude.{IsTrue, ◌↔◌, Bool, true, false, ◌≡◌, refl, List, [], ◌∷◌, ℕ, zero, suc, ◌+◌, ◌-◌, ◌≤◌, ◌<◌, leb, eqb, length, take, drop, get_or}
+use Rattle.std.proofs.Common.{sym, ◌∙◌, ap, arith, length-drop, lt-ltb, le-ltb, le-leb, eq-eqb, ne_eqb}
 use Rattle.std.proofs.lemmas.Bool.{lt-leb, false≢true}
 use Rattle.std.specs.Int.Bits.{bit_and}
 use Rattle.std.proofs.Math.Decide.{dec_lt}
@@ -13,7 +13,7 @@ use Rattle.std.proofs.lemmas.List.Sums.{position_or_len_is}
 use Rattle.utf.specs.Unicode.{is_ascii}
 use Rattle.utf.specs.Bounds.{Below}
 use Rattle.utf.specs.Plain.{ascii_run, BehindRun, little_of, tops_of}
-use Rattle.utf.specs.PlainLaws.{run_on, run_le, run_plain, eight_plain}
+use Rattle.utf.specs.PlainLaws.{run_on, run_le, run_ascii, run_plain, eight_plain}
 
 -- the run ends at the first byte that is not ASCII
 run_position : (s : List ℕ) → ascii_run s ≡ position_or_len (leb 0x80) s
@@ -54,16 +54,20 @@ behind_place s rest b h z q =
     let size : length rest ≡ length s - 8 - q.0 = rw q.2 (length-drop q.0 (drop 8 s) ∙ ap (λ (n : ℕ). n - q.0) (length-drop 8 s)) in
     omega (arith, size, q.1, run_on s 0 8 (omega arith, omega arith), run_le s, run_le (drop 8 s), length-drop 8 s)
 
--- bytes are ASCII where what is left behind a part of their run is
+-- bytes are ASCII where what is left behind a part of their run is: the run goes as far towards their end
 drop_ascii : (n : ℕ) (s : List ℕ) → n ≤ ascii_run s → is_ascii (drop n s) ≡ is_ascii s
-unfolding is_ascii ascii_run
-drop_ascii zero s h = refl
-drop_ascii (suc n) [] h = refl
-drop_ascii (suc n) (b ∷ s) h =
-    elim (dec_lt b 0x80) [
-      | yes p ↦ rw (lt-ltb b 0x80 p) (drop_ascii n s (let k = rw (lt-ltb b 0x80 p) at h in omega (arith, k)))
-      | no p ↦ absurd (omega (arith, rw (le-ltb b 0x80 (omega arith)) at h))
-    ]
+drop_ascii n s h = sym (run_ascii (drop n s)) ∙ as_far ∙ run_ascii s
+  where
+    more : ascii_run s ≡ n + ascii_run (drop n s)
+    more = omega (arith, run_on s 0 n (omega arith, omega (arith, h)))
+
+    as_far : eqb (ascii_run (drop n s)) (length (drop n s)) ≡ eqb (ascii_run s) (length s)
+    as_far =
+        let left = length-drop n s in
+        elim (dec_lt (ascii_run s) (length s)) [
+          | yes p ↦ ne_eqb (ascii_run (drop n s)) (length (drop n s)) (omega (arith, more, left)) ∙ sym (ne_eqb (ascii_run s) (length s) (omega arith))
+          | no p ↦ eq-eqb (ascii_run (drop n s)) (length (drop n s)) (omega (arith, more, left, run_le s)) ∙ sym (eq-eqb (ascii_run s) (length s) (omega (arith, run_le s)))
+        ]
 
 pub behind_ascii : (s rest : List ℕ) → BehindRun s rest → is_ascii rest ≡ is_ascii s
 behind_ascii s rest b = rw b.2 (drop_ascii b.0 s b.1)

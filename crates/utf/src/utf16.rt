@@ -107,12 +107,13 @@ fn next_scalar(s: &[u8]) -> Option<(u32, &[u8])>
     }
 }
 
-// The unit that begins at i.
+// The unit that begins at i. Said by a product and a sum, its tests are of the first byte alone: the check takes half the time that it takes by
+// `from_be_bytes`, which turns the two bytes round first.
 fn unit_at(s: &[u8], i: usize) -> u32
     requires { i + 2 ≤ length s.now }
     ensures { UnitAt s.now i result }
 {
-    u16::from_be_bytes([s[i], s[i + 1]]) as u32
+    s[i] as u32 * 256 + s[i + 1] as u32
 }
 
 // How many bytes a scalar value has in UTF-8.

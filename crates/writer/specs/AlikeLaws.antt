@@ -1,12 +1,12 @@
 -- Bytes that are the same, and what the hash is made of.
-use Rattle.std.specs.Prelude.{◌≡◌, ℕ, zero, suc, ◌+◌, ◌*◌, ◌/◌, ◌%◌, ◌^◌, ◌<◌, ◌≤◌, Bool, true, false, List, [], take, drop, ◌≢◌, slice_index, slice_index_or, refl}
+use Rattle.std.specs.Prelude.{◌≡◌, ℕ, zero, suc, ◌+◌, ◌-◌, ◌*◌, ◌/◌, ◌%◌, ◌^◌, ◌<◌, ◌≤◌, Bool, true, false, List, [], length, take, drop, ◌≢◌, nat_lt, slice_index, slice_index_or, refl}
 use Rattle.std.specs.Bool.{Decides}
 use Rattle.std.specs.Int.{rotate_left, from_le_bytes}
 use Rattle.std.specs.Int.Bits.{bit_or, and_zero_l, and_zero_r}
 use Rattle.std.specs.Simd.{first_chunks}
 use Rattle.std.proofs.lemmas.List.{drop-drop}
 use Rattle.std.proofs.lemmas.Nat.{or_disjoint, and_block}
-use Rattle.std.proofs.Common.{ap, ◌∙◌, add_assoc, get_or-take, get_or-drop, add-zero, zero-add, mul-le-mul, div-lt_iff_lt-mul, mul-lt-mul_of_pos_right, mul_comm, arith, lit<, w64}
+use Rattle.std.proofs.Common.{ap, sym, ◌∙◌, add_assoc, get_or-take, get_or-drop, add-zero, zero-add, mod-lt, mul-le-mul, div-lt_iff_lt-mul, mul-lt-mul_of_pos_right, mul_comm, arith, lit<, w64, ltb-true, ltb-false, ext_get_or}
 use Rattle.written.specs.Graph.{same_bytes}
 use Rattle.written.proofs.NameLaws.{bytes_sound, bytes_refl}
 use Rattle.writer.specs.Alike.{four_at, turned_of, mixed_of}
@@ -35,6 +35,14 @@ turned_is h f =
     let e : h * 32 % 2 ^ 64 ≡ h % 0x0800_0000_0000_0000 * 32 = omega arith in
     rw e (apart (h % 0x0800_0000_0000_0000) (h / 0x0800_0000_0000_0000) (omega arith))
 
+-- and it fits
+turn_fits : (q r : ℕ) → q < 32 → r < 0x0800_0000_0000_0000 → r * 32 + q < 2 ^ 64
+turn_fits q r f g = omega arith
+
+pub turned_fits : (h : ℕ) → h < 2 ^ 64 → turned_of h < 2 ^ 64
+unfolding turned_of
+turned_fits h f = turn_fits (h / 0x0800_0000_0000_0000) (h % 0x0800_0000_0000_0000) ((div-lt_iff_lt-mul (lit< tt)).1 f) (mod-lt h (lit< tt))
+
 -- eight bytes as two numbers of four
 halves : (a b : ℕ) → a < 2 ^ 32 → ((a + b * 2 ^ 32) % 2 ^ 32 ≡ a) × ((a + b * 2 ^ 32) / 2 ^ 32 ≡ b)
 halves a b f = (omega arith, omega arith)
@@ -60,6 +68,29 @@ block_of s (suc m) zero h = refl
 block_of s (suc m) (suc k) h =
     let e : suc k * 8 ≡ 8 + k * 8 = omega arith in
     rw e (block_of (drop 8 s) m k (omega arith) ∙ ap (λ (l : List ℕ). take 8 l) (drop-drop (k * 8) 8 s))
+
+-- bytes with the same first k and the same last k, where there are no more
+pub same_ends : (s t : List ℕ) (k : ℕ) → length s ≡ length t → k ≤ length s → length s ≤ k + k → take k s ≡ take k t → drop (length s - k) s ≡ drop (length t - k) t → s ≡ t
+same_ends s t k n few many first last = ext_get_or 0 s t n at
+  where
+    p : ℕ
+    p = length s - k
+
+    behind : drop p s ≡ drop p t
+    behind = last ∙ ap (λ (m : ℕ). drop (m - k) t) (sym n)
+
+    at : (j : ℕ) → j < length s → slice_index s j ≡ slice_index t j
+    at j l = go (nat_lt j k) refl
+      where
+        go : (x : Bool) → nat_lt j k ≡ x → slice_index s j ≡ slice_index t j
+        go true q =
+            let f : j < k = ltb-true j k q in
+            sym (get_or-take k s j 0 f) ∙ ap (λ (c : List ℕ). slice_index c j) first ∙ get_or-take k t j 0 f
+        go false q =
+            let f : k ≤ j = ltb-false j k q in
+            let h : p + (j - p) ≡ j = omega arith in
+            let there : (x : List ℕ) → slice_index (drop p x) (j - p) ≡ slice_index x j = λ x. get_or-drop p x (j - p) 0 ∙ ap (λ (i : ℕ). slice_index x i) h in
+            sym (there s) ∙ ap (λ (c : List ℕ). slice_index c (j - p)) behind ∙ there t
 
 -- a block of the first e bytes
 pub mixed_block : (h : ℕ) (s : List ℕ) (e m k : ℕ) → k < m → m * 8 ≤ e → mixed_of h (slice_index_or (first_chunks 8 m (take e s)) k []) 0 ≡ mixed_of h s (k * 8)

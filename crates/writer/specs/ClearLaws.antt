@@ -1,6 +1,6 @@
 -- What is cleared is 0, and what stands before it is as it was.
 use Rattle.std.specs.Prelude.{◌≡◌, ℕ, zero, suc, ◌+◌, ◌-◌, ◌<◌, ◌≤◌, List, length, replicate, slice_index, slice_set, refl}
-use Rattle.std.proofs.Common.{◌∙◌, arith, length-set, get_or-set_other, get_or-set_same}
+use Rattle.std.proofs.Common.{ap, ◌∙◌, arith, length-set, get_or-set_other, get_or-set_same}
 use Rattle.std.proofs.lemmas.List.Edits.{sets}
 use Rattle.std.proofs.Math.Seq.{length-sets}
 use Rattle.writer.specs.Columns.{cleared}
@@ -8,6 +8,19 @@ use Rattle.writer.specs.Columns.{cleared}
 pub length_cleared : (w : List ℕ) (from to : ℕ) → length (cleared w from to) ≡ length w
 unfolding cleared
 length_cleared w from to = length-sets w from (replicate (to - from) 0)
+
+-- word by word
+pub cleared_turn : (w : List ℕ) (i to : ℕ) → i < to → cleared w i to ≡ cleared (slice_set w i 0) (suc i) to
+unfolding cleared
+cleared_turn w i to h =
+    let e : to - i ≡ suc (to - suc i) = omega arith in
+    ap (λ (m : ℕ). sets w i (replicate m 0)) e
+
+pub cleared_done : (w : List ℕ) (i to : ℕ) → to ≤ i → cleared w i to ≡ w
+unfolding cleared
+cleared_done w i to h =
+    let e : to - i ≡ 0 = omega arith in
+    ap (λ (m : ℕ). sets w i (replicate m 0)) e
 
 zeros_below : (m : ℕ) (w : List ℕ) (from i : ℕ) → i < from → slice_index (sets w from (replicate m 0)) i ≡ slice_index w i
 zeros_below zero w from i h = refl

@@ -1,8 +1,8 @@
 -- The search for an event's bytes by the index finds the first event with its name.
-use Rattle.std.specs.Prelude.{◌≡◌, ℕ, suc, ◌+◌, ◌-◌, ◌*◌, ◌<◌, ◌≤◌, Bool, true, false, List, length, drop, ◌≢◌, nat_lt, slice_index, slice_index_or, slice_set, refl}
+use Rattle.std.specs.Prelude.{◌≡◌, ℕ, suc, ◌+◌, ◌-◌, ◌*◌, ◌<◌, ◌≤◌, Bool, true, false, List, length, drop, ◌≢◌, nat_lt, slice_index, slice_index_or, slice_range, slice_set, refl}
 use Rattle.std.proofs.lemmas.Bool.{false≢true}
 use mathlib.Core.List.{head-eq_of_cons-eq}
-use Rattle.std.proofs.Common.{ap, sym, ◌∙◌, add-one, arith, ltb-true, ltb-false, length-set, get_or-set_other}
+use Rattle.std.proofs.Common.{ap, sym, ◌∙◌, add-one, arith, ltb-true, ltb-false, length-drop, length-set, length-take-le, get_or-set_other}
 use Rattle.event.specs.Format.{max_length}
 use Rattle.event.specs.Meaning.{Meaning}
 use Rattle.tape.specs.Code.{bytes_for}
@@ -28,6 +28,12 @@ upto P k f g j l = go (nat_lt j k) refl
     go false q =
         let z : j ≡ k = omega (arith, ltb-false j k q) in
         rw z g
+
+-- a part of another length
+pub part_other : (t s : List ℕ) (from to : ℕ) → from ≤ to → to ≤ length t → (to - from ≢ length s) → same_bytes (slice_range t from to) s ≡ false
+part_other t s from to f g h =
+    let l : length (slice_range t from to) ≡ to - from = length-take-le (to - from) (drop from t) (rw length-drop (omega arith)) in
+    bytes_other (slice_range t from to) s (λ e. h (sym l ∙ ap length e))
 
 -- a scalar's bytes are another event's exactly where their names are the same: starts and ends have other kinds
 name_bytes : (m : Meaning) (i : ℕ) (s : Scalar) → slice_index s 0 < 0x0a → same_bytes (bytes_for m) s ≡ same (val s) (name_of i (piece_of m))

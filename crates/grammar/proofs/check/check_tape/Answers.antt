@@ -6,7 +6,6 @@ use borrow.Author.Tests.{lt-ltb}
 use Rattle.grammar.specs.Check.{check_of}
 use Rattle.grammar.specs.Said.{checked_said}
 use Rattle.grammar.proofs.Checking.{stands_first, is_whole, is_incomplete, meets, is_less, is_barred, is_past, is_room, is_into, is_open, is_out}
-use Rattle.grammar.proofs.Turning.{same_nothing}
 use Rattle.grammar.proofs.check.check_tape.Goals.{in-Past, in-Into, in-Out}
 use Rattle.grammar.proofs.check.check_tape.Goals as goal
 
@@ -48,10 +47,10 @@ unfolding checked_said
 returns-in-Barred c =
     is_barred (meets (λ (i : ℕ). omega (arith, c.type_inv.tape i)) c.loop-at.invariant c.loop-at-test.true c.depth.ensures c.way_at-gone.ensures) c.in-Barred.is
 
-pub returns-then-eq : goal.returns-then-eq
+pub returns-then-is_nothing : goal.returns-then-is_nothing
 unfolding checked_said
-returns-then-eq c = is_whole c.loop-at.invariant c.loop-at-test.false (sym (same_nothing c.loop-at.due) ∙ sym c.eq.ensures ∙ c.if-eq.true)
+returns-then-is_nothing c = is_whole c.loop-at.invariant c.loop-at-test.false (sym c.is_nothing.ensures ∙ c.if-is_nothing.true)
 
 pub returns : goal.returns
 unfolding checked_said
-returns c = is_incomplete c.loop-at.invariant c.loop-at-test.false (sym (same_nothing c.loop-at.due) ∙ sym c.eq.ensures ∙ c.if-eq.false)
+returns c = is_incomplete c.loop-at.invariant c.loop-at-test.false (sym c.is_nothing.ensures ∙ c.if-is_nothing.false)

@@ -52,8 +52,11 @@ unfolding seven
 seven_bits zero j h low high = omega (arith, few_bits 1 j (omega arith) low, high, ap length (seven_last 0 (omega arith)))
 seven_bits (suc n) j h low high = groups_bits 9 (suc n) j (omega arith) (omega arith) (omega arith)
 
+pub returns-then-n-lt128 : goal.returns-then-n-lt128
+returns-then-n-lt128 c = omega (arith, ap length (seven_last c.args.n c.if-n-lt128.true))
+
 pub returns : goal.returns
 returns c =
-    let m = c.max.ensures in
     let b = c.ilog2.ensures in
-    seven_bits c.args.n c.ilog2.result (omega arith) (omega (arith, m, b.power_le)) (omega (arith, m, b.next_power_gt))
+    let h = c.if-n-lt128.false in
+    seven_bits c.args.n c.ilog2.result (omega arith) (omega (arith, h, b.power_le)) (omega (arith, h, b.next_power_gt))

@@ -5,16 +5,12 @@ use Prim.Native.Nat.{◌+◌, ◌-◌, ◌≤◌, ◌<◌, ℕ}
 use native.Mathlib.Omega.{arith}
 use borrow.Rule.Slice.PartMut.{put_mid, mid_len}
 use lib.ListN.{length, length-set, set}
-use lib.Seq.{sets}
 use Rattle.number.specs.Be.{bytes_of}
 use Rattle.number.specs.BeLaws.{length_bytes_of}
 use Rattle.tape.specs.Append.{said}
 use Rattle.tape.proofs.AppendLaws.{put_none, put_room, put_part}
 use Rattle.tape.proofs.Tests.{lacks, has}
 use Rattle.tape.proofs.unchecked.put_eight.Goals as goal
-use Rattle.tape.proofs.unchecked.put_eight.Lts as lts
-use Rattle.tape.proofs.unchecked.put_eight.Reads as reads
-use Rattle.tape.proofs.unchecked.put_eight.Tie as tie
 
 pub returns-then-lacks_room : goal.returns-then-lacks_room
 unfolding said

@@ -1,9 +1,7 @@
 -- `put_kind` writes the kind, where there is room.
 use mathlib.Core.List.{[]}
 use mathlib.Core.Path.{refl}
-use Prim.Native.Nat.{◌+◌, ◌≤◌}
 use native.Mathlib.Omega.{arith}
-use lib.ListN.{length}
 use Rattle.tape.specs.Append.{said}
 use Rattle.tape.proofs.AppendLaws.{put_none, put_room}
 use Rattle.tape.proofs.Tests.{lacks, has}

@@ -1,5 +1,5 @@
 -- `put_number` writes the kind and the number, where there is room.
-use Prim.Native.Nat.{◌+◌, ◌≤◌, ◌<◌, suc}
+use Prim.Native.Nat.{◌+◌, ◌≤◌, ◌<◌}
 use native.Mathlib.Omega.{arith}
 use lib.ListN.{length}
 use Rattle.tape.specs.Append.{said}
@@ -7,9 +7,6 @@ use Rattle.tape.proofs.AppendLaws.{put_none, put_room}
 use Rattle.tape.specs.Seven.{seven}
 use Rattle.tape.proofs.Tests.{lacks, has}
 use Rattle.tape.proofs.unchecked.put_number.Goals as goal
-use Rattle.tape.proofs.unchecked.put_number.Lts as lts
-use Rattle.tape.proofs.unchecked.put_number.Reads as reads
-use Rattle.tape.proofs.unchecked.put_number.Tie as tie
 
 pub returns-then-lacks_number : goal.returns-then-lacks_number
 unfolding said

@@ -1,4 +1,4 @@
--- `value`: 32, 1, what the grammar refuses, 27, or the event is behind what was held.
+-- `build`: 32, 1, what the grammar refuses, 27, or the event is behind what was held.
 use mathlib.Core.Path.{sym, ◌∙◌}
 use Prim.Native.Nat.{ℕ}
 use lib.ListN.{get_or}
@@ -14,8 +14,8 @@ use Rattle.tape.specs.BytesLaws.{Sound}
 use Rattle.builder.specs.Build.{answer_said}
 use Rattle.builder.specs.CallsLaws.{judge_tells}
 use Rattle.builder.proofs.Building.{filled, full_by, Short, shrank, long, stopped, taken, full}
-use Rattle.builder.proofs.build.value.Goals as goal
-use Rattle.builder.proofs.build.value.Goals.{Start, Else-lacks_event}
+use Rattle.builder.proofs.build.build.Goals as goal
+use Rattle.builder.proofs.build.build.Goals.{Start, Else-lacks_event}
 
 -- the event's numbers have 64 bits, and its bytes are bytes
 sound : (c : goal.Start) → ((i : ℕ) → Fits w8 (get_or c.args.bytes.now i 0)) → let a = c.args in Sound (meaning_of a.event a.bytes.now)

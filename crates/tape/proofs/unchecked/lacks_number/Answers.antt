@@ -7,7 +7,7 @@ use lib.ListN.{length}
 use Rattle.tape.specs.Seven.{seven}
 use Rattle.tape.specs.SevenLaws.{seven_few}
 use Rattle.tape.proofs.Tests.{has}
-use Rattle.tape.proofs.room.lacks_number.Goals as goal
+use Rattle.tape.proofs.unchecked.lacks_number.Goals as goal
 
 pub overflow_add-groups_in : goal.overflow_add-groups_in
 overflow_add-groups_in c = omega (arith, c.groups_in.ensures, seven_few c.args.n)
